@@ -1,0 +1,3 @@
+// The check of a model file.
+pub mod check;
+pub mod fault;
