@@ -1,0 +1,5 @@
+pub mod Whole
+pub mod CounterBox
+pub mod Layer
+pub mod Goal
+pub mod Mirror
