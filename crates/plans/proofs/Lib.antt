@@ -1,0 +1,13 @@
+pub mod Ints
+pub mod Sums
+pub mod Bests
+pub mod Means
+pub mod Blended
+pub mod Places
+pub mod Values
+pub mod Sizes
+pub mod Errors
+pub mod Near
+pub mod Reach
+pub mod Amounts
+pub mod Limits

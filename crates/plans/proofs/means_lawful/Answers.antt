@@ -1,0 +1,5 @@
+use Rattle.plans.proofs.means_lawful.Needs as need
+use Rattle.plans.proofs.Means.{means-lawful}
+
+pub returns : need.returns
+returns c = means-lawful

@@ -1,0 +1,5 @@
+pub mod Totals
+pub mod Blends
+pub mod Plans
+pub mod Sweep
+pub mod Claims

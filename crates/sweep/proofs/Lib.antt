@@ -1,0 +1,11 @@
+pub mod Sums
+pub mod Gains
+pub mod Asking
+pub mod Branches
+pub mod Running
+pub mod Worths
+pub mod Parts
+pub mod Best
+pub mod Halves
+pub mod Tested
+pub mod Turns
