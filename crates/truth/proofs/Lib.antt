@@ -1,0 +1,11 @@
+pub mod Tests
+pub mod Taken
+pub mod Targets
+pub mod Judging
+pub mod Rows
+pub mod Pairs
+pub mod Narrowing
+pub mod Settling
+pub mod Runs
+pub mod Mixing
+pub mod Sound
