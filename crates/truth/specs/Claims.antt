@@ -55,7 +55,7 @@ pub record Shows-true (t : Table) (d : Docket) : Type 0 where
   pub numbers : (ws : List ℕ) (c s : ℤ) → d .verdict ≡ Refuted ws c s →
       (c ≡ ceiling t (d .objectives) ws) × (s ≡ target-sum ws (d .objectives)) × (c <ℤ s)
 
--- after any calls on a posed docket and one more, taken or refused; proved in proofs/Sound.antt, and on no contract before all calls are code
+-- after any calls on a posed docket and one more, taken or refused; no contract names it before all calls are code
 abbrev pub Truth : Type 0
 Truth =
     (t : Table) (os : List Objective) (calls : List Call) (call : Call) → Facts t → Posable t os →
