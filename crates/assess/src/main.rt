@@ -1,4 +1,6 @@
 // Says what the model file in the present folder holds, or why it was refused.
+#![tactic(auto)]
+
 use file_model::FileModel;
 use std::{fs, io};
 use summary::Summary;

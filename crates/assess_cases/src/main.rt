@@ -1,4 +1,6 @@
 // What whole questions print.
+#![tactic(auto)]
+
 use anyhow::anyhow;
 use assessment::assess::{assess, print_fault};
 use plans::Row;

@@ -1,4 +1,6 @@
 // Answers the question in `question.bin` about the model in `model.bin`, both in the present folder.
+#![tactic(auto)]
+
 use assessment::assess::{assess, print_fault};
 use plans::Row;
 use std::io::Write;

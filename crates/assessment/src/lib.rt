@@ -1,4 +1,6 @@
 // Questions answered from bytes to printed lines.
+#![tactic(auto)]
+
 ghost use Rattle.assessment.specs.Questions.{QuestionLayout};
 
 pub mod assess;

@@ -1,4 +1,6 @@
 // Blends: one number from the weighted amounts of a choice's branches.
+#![tactic(auto)]
+
 ghost use Rattle.std.specs.Prelude.{◌≡◌, ℕ, ◌+◌, ◌<◌, ◌≤◌, List, ℤ, pos, unsigned_abs, refl};
 ghost use Rattle.std.proofs.Common.{zero-le};
 ghost use Rattle.mdp.specs.Limits.{max_divisor};

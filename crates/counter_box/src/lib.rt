@@ -1,4 +1,6 @@
 // A lock that counts wrong tries, as a model.
+#![tactic(auto)]
+
 ghost use Rattle.std.specs.Prelude.{◌≡◌, ◌≤◌};
 ghost use Rattle.std.specs.Option.{option_map};
 ghost use Rattle.tables.specs.Whole.{whole_of};

@@ -1,3 +1,5 @@
 // Drafts and dockets over any model.
+#![tactic(auto)]
+
 pub mod docket;
 pub mod draft;

@@ -1,4 +1,6 @@
 // Calls on drafts and dockets, one to a line: what each answers, and what the docket shows after it.
+#![tactic(auto)]
+
 use anyhow::anyhow;
 use docket::docket::{Docket, Price};
 use docket::draft::Draft;

@@ -1,4 +1,6 @@
 // Why a call was refused.
+#![tactic(auto)]
+
 ghost use Rattle.std.specs.Prelude.{◌≡◌, ℕ, List, Some};
 ghost use Rattle.fault.specs.Texts.{fault_text};
 

@@ -1,4 +1,6 @@
 // The worked figures, as one theorem over the definitions that the calls promise.
+#![tactic(auto)]
+
 ghost use Rattle.figures.specs.Figures.{Worked};
 
 pub fn worked_figures() -> u8

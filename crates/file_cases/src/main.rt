@@ -1,4 +1,6 @@
 // What the check says of many files, each with its name.
+#![tactic(auto)]
+
 use anyhow::anyhow;
 use file_check::check::check;
 use std::fs;

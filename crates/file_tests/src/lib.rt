@@ -1,4 +1,6 @@
 // Models read from files, question by question.
+#![tactic(auto)]
+
 #[cfg(test)]
 mod tests {
     use file_check::fault::{FileCause, FileFault};

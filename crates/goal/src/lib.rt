@@ -1,4 +1,6 @@
 // A layer that pays for the first marked state that is met.
+#![tactic(auto)]
+
 ghost use Rattle.std.specs.Prelude.{◌≡◌, ◌≤◌, ◌&&◌, length, is_ok, if◌then◌else◌};
 ghost use Rattle.tables.specs.Goal.{max_marks, state_below, goal_next, goal_reward, goal_table, goal_fits, goal_view};
 ghost use Rattle.tables.proofs.Goal.{goal_facts};

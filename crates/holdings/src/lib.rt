@@ -1,4 +1,6 @@
 // What a docket holds: objectives, and a table of priced rows.
+#![tactic(auto)]
+
 pub mod objectives;
 mod sums;
 pub mod table;

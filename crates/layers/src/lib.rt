@@ -1,4 +1,6 @@
 // Layers: models over any model.
+#![tactic(auto)]
+
 ghost use Rattle.std.specs.Prelude.{◌≡◌, ◌<◌};
 ghost use Rattle.mdp.specs.Limits.{max_columns};
 ghost use Rattle.tables.specs.Whole.{whole_extended};

@@ -1,4 +1,6 @@
 // A finite Markov decision process, asked question by question.
+#![tactic(auto)]
+
 ghost use Rattle.std.specs.Prelude.{◌≡◌, length};
 ghost use Rattle.mdp.specs.Table.{Table, Facts};
 ghost use Rattle.mdp.specs.Questions.{choice_count, branch_count, weight_of, next_of, reward_of, whole_branch};

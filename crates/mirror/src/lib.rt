@@ -1,4 +1,6 @@
 // A layer with one more column, the negative of another.
+#![tactic(auto)]
+
 ghost use Rattle.std.specs.Prelude.{◌≡◌, ◌≤◌, neg_ℤ, is_ok, if◌then◌else◌, unsigned_abs};
 ghost use Rattle.mdp.specs.Limits.{max_reward};
 ghost use Rattle.tables.specs.Mirror.{mirror_table, mirror_room, mirror_view};

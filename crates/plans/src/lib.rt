@@ -1,4 +1,6 @@
 // Objectives, the rows that a sweep works on, and the theorems, each on the contract of a function.
+#![tactic(auto)]
+
 ghost use Rattle.plans.specs.Claims.{CeilingBoundsValue, CeilingIsValue, PartIsValue, PartsPast, PlanValid, BestFirst, BlendWithin, RowsSmall};
 ghost use Rattle.plans.specs.Claims.{MeansLawful, MeanUpLeast, MeanDownGreatest};
 ghost use Rattle.plans.specs.Claims.{CeilingBounds, CeilingNear, PartReached, PartNear, OutOfReach, MissRefutes, WithinReach, ClearAchieves, MixtureValid, HorizonCovers};

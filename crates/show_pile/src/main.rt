@@ -1,4 +1,6 @@
 // Prints the table of a pile: a goal over a mirror over a counter box, one line for each branch.
+#![tactic(auto)]
+
 use counter_box::CounterBox;
 use layers::goal::Goal;
 use layers::marks::Marks;

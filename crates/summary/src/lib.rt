@@ -1,4 +1,6 @@
 // The sizes of a model, to be printed.
+#![tactic(auto)]
+
 ghost use Rattle.std.specs.Prelude.{◌≡◌, Some};
 ghost use Rattle.summary.specs.Texts.{summary_of, summary_text};
 

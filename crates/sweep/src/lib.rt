@@ -1,4 +1,6 @@
 // The backward sweep: the highest weighted reward that a model gives over a bounded number of steps.
+#![tactic(auto)]
+
 ghost use Rattle.std.specs.Prelude.{◌≡◌, ℕ, ◌+◌, ◌-◌, ◌*◌, ◌<◌, ◌≤◌, ◌&&◌, ◌++◌, length, take, drop, replicate, pos, ◌+ℤ◌, ◌*ℤ◌, if◌then◌else◌, All, ◌==◌, nat_lt, slice_index_or, unsigned_abs};
 ghost use Rattle.plans.specs.Plans.{no_branch, earns, earns_by, horizon};
 ghost use Rattle.plans.specs.Sweep.{zero_row};

@@ -1,4 +1,6 @@
 // The rows of many sweeps over model files.
+#![tactic(auto)]
+
 use anyhow::anyhow;
 use file_model::FileModel;
 use mdp::Model;

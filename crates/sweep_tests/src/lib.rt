@@ -1,4 +1,6 @@
 // Sweeps of a three-way coin and of the counter box, with values worked out by hand.
+#![tactic(auto)]
+
 #[cfg(test)]
 mod tests {
     use counter_box::CounterBox;

@@ -1,4 +1,6 @@
 // A short text that is made in place.
+#![tactic(auto)]
+
 ghost use Rattle.std.specs.Prelude.{◌≤◌};
 
 mod writing;

@@ -1,4 +1,6 @@
 // What the calls on a draft and on a docket make of them: the laws, each on the contract of a function.
+#![tactic(auto)]
+
 ghost use Rattle.truth.specs.Claims.{Truth, TruthDrafted, OfferedExactly};
 ghost use Rattle.truth.specs.Claims.{Stands, TakenExactly, RefusedExactly, JudgedExactly};
 ghost use Rattle.truth.specs.Claims.{StaysOrderly, StaysOrderlyDrafted, RowNumbered, TargetsPresent, PlansKept};

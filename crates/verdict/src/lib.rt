@@ -1,4 +1,6 @@
 // The verdict on a docket's targets, and why a call is refused.
+#![tactic(auto)]
+
 pub mod fault;
 pub mod few;
 pub mod limits;
