@@ -4,7 +4,7 @@ use borrow.Author.Differences.{ints}
 use Rattle.std.specs.List.{range_with_len, flat_map}
 use Rattle.std.specs.Fmt.{signed_decimal}
 use Rattle.std.proofs.lemmas.Fmt.{length-decimal-le}
-use Rattle.std.proofs.lemmas.List.Elements.{AllWeaker}
+use Rattle.std.proofs.lemmas.List.Elements.{All-weaker}
 use Rattle.std.proofs.lemmas.Bool.{cond_both, cases_eq}
 use Rattle.std.proofs.lemmas.Bool.Decides.{nat_tests}
 use Rattle.mdp.specs.Table.{Table, Facts}
@@ -78,7 +78,7 @@ module _ (r s a : ℕ) (rising : r < s) (small : a ≤ 1000) where
 module _ (t : Table) (facts : Facts t) (os : List Objective) (posable : Posable t os) where
   ceiling_short : (ws : List ℕ) → All (λ w. w ≤ 1000) ws → nat_abs (ceiling t os ws) ≤ 2 ^ 63
   ceiling_short ws light =
-      let h = horizon_few os (AllWeaker (Accepted t) (λ o. o.bound ≤ 256) (λ o a. a.short) os posable.each) in
+      let h = horizon_few os (All-weaker (Accepted t) (λ o. o.bound ≤ 256) (λ o a. a.short) os posable.each) in
       omega (arith, rows_ceiling_within t facts mean_up mean_down means_lawful.0 means_lawful.1 os ws posable.few light (horizon os) t.first)
 
 target_small : (t : Table) (o : Objective) → Accepted t o → nat_abs o.target ≤ 2 ^ 40
@@ -132,7 +132,7 @@ module _ (t : Table) (facts : Facts t) (d : Docket) (orderly : Orderly t d) (len
 
   rows_two : All (λ p. Two p.weights) (settled t d).table
   rows_two =
-      AllWeaker (λ (p : Priced). Weighs (settled t d).objectives p.weights) (λ p. Two p.weights)
+      All-weaker (λ (p : Priced). Weighs (settled t d).objectives p.weights) (λ p. Two p.weights)
       (λ p w. record { two = w.each ∙ ap length same ∙ two; small = w.small }) (settled t d).table (orderly_effect t d (settle lent) taken orderly).weighs
 
   shown_short : (v : Verdict) → (settled t d).verdict ≡ v → length (lines_of v (settled t d).table) ≤ 64

@@ -2,7 +2,7 @@
 use Rattle.std.proofs.Common.{◌≡◌, ℕ, zero, suc, ◌+◌, ◌-◌, ◌*◌, ◌<◌, ◌≤◌, true, false, cond, ltb, ◌⊎◌, List, [], ◌∷◌, length, get_or, replicate, ℤ, pos, ◌+ℤ◌, ◌*ℤ◌, nat_abs, All, refl, ap, ◌∙◌, subst, inl, inr, ⊎_elim, zero-le, suc-mul, arith}
 use Rattle.std.specs.List.{range_with_len}
 use Rattle.std.proofs.lemmas.List.FromFn.{length-map-range_with_len}
-use Rattle.std.proofs.lemmas.List.Elements.{AllWeaker, All-map}
+use Rattle.std.proofs.lemmas.List.Elements.{All-weaker, All-map}
 use Rattle.std.proofs.lemmas.List.{length-replicate}
 use Rattle.mdp.specs.Table.{Branch, Choice, State, Table, total_weight, BranchFacts, ChoiceFacts, StateFacts, Facts}
 use Rattle.plans.specs.declared.Objective.{Objective}
@@ -44,14 +44,14 @@ module _ (t : Table) (f : Facts t) where
   fair_none = record { next = f.some; few = zero-le; rewards = λ i. zero-le }
 
   sound : (bs : Choice) → ChoiceFacts (length t.states) t.divisor t.columns bs → Sound t bs
-  sound bs h = record { whole = inr h.whole; light = omega (arith, h.whole); few = h.few; branches = AllWeaker _ _ fair bs h.branches }
+  sound bs h = record { whole = inr h.whole; light = omega (arith, h.whole); few = h.few; branches = All-weaker _ _ fair bs h.branches }
 
   sound_none : Sound t []
   sound_none = record { whole = inl refl; light = zero-le; few = zero-le; branches = tt }
 
   pub sound_at : (s k : ℕ) → Sound t (choice_at t s k)
   sound_at s k =
-      let all : All (All (Sound t)) t.states = AllWeaker _ _ (λ cs h. AllWeaker _ _ sound cs h.choices) t.states f.each in
+      let all : All (All (Sound t)) t.states = All-weaker _ _ (λ cs h. All-weaker _ _ sound cs h.choices) t.states f.each in
       all_or (Sound t) (choices_at t s) k [] sound_none (all_or (All (Sound t)) t.states s [] tt all)
 
   pub fair_at : (s k j : ℕ) → Fair t (get_or (choice_at t s k) j no_branch)

@@ -3,7 +3,7 @@ use Rattle.std.proofs.Common.{ℕ, ◌*◌, ◌^◌, ◌<◌, ◌≤◌, List, [
 use native.Mathlib.Nat.{one-le-pow}
 use lib.ListN.{length-map}
 use borrow.Author.Differences.{same_out, sum_is_lem, le_out, lt_out, at_most_in, below_in}
-use Rattle.std.proofs.lemmas.List.Elements.{All-get_or, AllWeaker, All-map}
+use Rattle.std.proofs.lemmas.List.Elements.{All-get_or, All-weaker, All-map}
 use Rattle.plans.specs.declared.Objective.{Objective}
 use Rattle.plans.specs.Totals.{◌·◌, weight_sum, total}
 use Rattle.plans.specs.Blends.{mean_up, mean_down}
@@ -51,7 +51,7 @@ mixture_valid t os cs facts some shares = record {
   some = rw length-map some;
   shares = All-map (λ (m : Share). 1 ≤ m.share) (planned t os) cs shares;
   plans = All-map (λ (m : Share). Valid t (horizon os) t.first m.plan) (planned t os) cs
-      (AllWeaker (λ (c : Candidate). 1 ≤ c.share) (λ (c : Candidate). Valid t (horizon os) t.first (planned t os c).plan) (λ c h. plan_valid mean_up mean_down t os c.weights (horizon os) t.first facts facts.first_in) cs shares);
+      (All-weaker (λ (c : Candidate). 1 ≤ c.share) (λ (c : Candidate). Valid t (horizon os) t.first (planned t os c).plan) (λ c h. plan_valid mean_up mean_down t os c.weights (horizon os) t.first facts facts.first_in) cs shares);
 }
 
 pub within_reach : WithinReach

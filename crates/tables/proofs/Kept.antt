@@ -1,7 +1,7 @@
 -- The facts of a table stay where each branch is changed alike and keeps its weight.
 use Rattle.std.proofs.Common.{◌≡◌, ℕ, zero, suc, ◌+◌, ◌<◌, ◌≤◌, List, [], ◌∷◌, map, length, ℤ, pos, negsuc, neg_ℤ, nat_abs, All, refl, ◌∙◌, arith, length-append}
 use lib.ListN.{length-map}
-use Rattle.std.proofs.lemmas.List.Elements.{All-push, All-map, AllWeaker}
+use Rattle.std.proofs.lemmas.List.Elements.{All-push, All-map, All-weaker}
 use Rattle.mdp.specs.Limits.{max_states, max_columns, max_reward}
 use Rattle.mdp.specs.Table.{Branch, Choice, State, Table, total_weight, BranchFacts, ChoiceFacts, StateFacts, Facts}
 use Rattle.tables.specs.Layer.{extended, extended_table, each_branch}
@@ -27,7 +27,7 @@ module _ (states divisor columns states' columns' : ℕ) (f : Branch → Branch)
   total_kept (b ∷ bs) = let e = total_kept bs in let w = weighs b in omega arith
 
   all_kept : {X Y : Type 0} (P : X → Type 0) (Q : Y → Type 0) (g : X → Y) → ((x : X) → P x → Q (g x)) → (xs : List X) → All P xs → All Q (map g xs)
-  all_kept P Q g k xs a = All-map Q g xs (AllWeaker P (λ x. Q (g x)) k xs a)
+  all_kept P Q g k xs a = All-map Q g xs (All-weaker P (λ x. Q (g x)) k xs a)
 
   choice_kept : (bs : Choice) → ChoiceFacts states divisor columns bs → ChoiceFacts states' divisor columns' (map f bs)
   choice_kept bs h =

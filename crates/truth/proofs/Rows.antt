@@ -1,6 +1,6 @@
 -- The rows of a docket's table after each call but settle. Assumes nothing.
 use Rattle.std.proofs.Common.{◌≡◌, ℕ, suc, ◌<◌, max, true, false, not, List, [], ◌∷◌, ◌++◌, length, get_or, take, ℤ, None, sym, refl, ap, ◌∙◌, inl, inr, arith}
-use Rattle.std.proofs.lemmas.List.Elements.{All-push, AllWeaker}
+use Rattle.std.proofs.lemmas.List.Elements.{All-push, All-weaker}
 use Rattle.std.proofs.lemmas.List.{length_push, get_or_append_left, get_or_push, take_all, take_at}
 use Rattle.std.proofs.lemmas.List.Sums.{prefix_len-le-length}
 use Rattle.std.proofs.lemmas.Bool.{cond_both, ltb-true, ltb-false, cases_lt}
@@ -81,9 +81,9 @@ module _ (t : Table) where
       record {
         posable = record { few = omega (arith, o.posable.few); each = accepted_aimed t ts os h.0 h.1 o.posable.each };
         few = o.few;
-        weighs = AllWeaker (λ (r : Priced). Weighs os r.weights) (λ (r : Priced). Weighs (each_by (aimed ts) os) r.weights)
+        weighs = All-weaker (λ (r : Priced). Weighs os r.weights) (λ (r : Priced). Weighs (each_by (aimed ts) os) r.weights)
             (λ r w. record { each = w.each ∙ sym more; small = w.small; some = w.some }) d.table o.weighs;
-        told = AllWeaker (λ (r : Priced). r.point ≡ point t os r.weights) (λ (r : Priced). r.point ≡ point t (each_by (aimed ts) os) r.weights)
+        told = All-weaker (λ (r : Priced). r.point ≡ point t os r.weights) (λ (r : Priced). r.point ≡ point t (each_by (aimed ts) os) r.weights)
             (λ r q. q ∙ ap (λ (s : Row). s.parts) (sym (swept_aimed t r.weights ts os))) d.table o.told;
         apart = o.apart;
       }

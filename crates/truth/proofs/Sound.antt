@@ -2,7 +2,7 @@
 use Rattle.std.proofs.Common.{◌≡◌, ℕ, ◌≤◌, Bool, true, false, List, [], ◌∷◌, ◌++◌, map, length, get_or, ℤ, ◌≤ℤ◌, ◌<ℤ◌, Some, None, fold, All, sum, Option, sym, refl, subst, arith}
 use borrow.Author.Differences.{ints}
 use lib.Signed.{lt_z, clash_ℤ}
-use Rattle.std.proofs.lemmas.List.Elements.{All-get_or, All-from_get_or, AllWeaker}
+use Rattle.std.proofs.lemmas.List.Elements.{All-get_or, All-from_get_or, All-weaker}
 use Rattle.std.proofs.lemmas.List.{length-append}
 use Rattle.std.proofs.lemmas.Bool.{cond_both, false≢true}
 use Rattle.mdp.specs.Table.{Table, Facts}
@@ -145,7 +145,7 @@ module _ (t : Table) where
 
     -- weights at which no pricing was below are none at which every plan misses
     not_missed : (os : List Objective) (wss : List (List ℕ)) (P : Type 0) → 1 ≤ horizon os → All (NotBelow t os) wss → All (λ ws. AllMiss t os ws → P) wss
-    not_missed os wss P some = AllWeaker (NotBelow t os) (λ ws. AllMiss t os ws → P) (λ ws h m. absurd (clash_ℤ (miss_refutes t os ws facts some m) h)) wss
+    not_missed os wss P some = All-weaker (NotBelow t os) (λ ws. AllMiss t os ws → P) (λ ws h m. absurd (clash_ℤ (miss_refutes t os ws facts some m) h)) wss
 
     settle_tells : (d : Docket) (v : Verdict) → 1 ≤ horizon d.objectives → SettledAs t d v → All (λ ws. AllMiss t d.objectives ws → IsRefuted v) (settle_prices t d)
     settle_tells d Open some h = not_missed d.objectives (settle_prices t d) (IsRefuted Open) some h.0
