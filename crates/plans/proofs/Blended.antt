@@ -1,6 +1,7 @@
 -- Weighted amounts of branches, and how large a lawful blend gets. Assumes nothing.
 use Rattle.std.proofs.Common.{◌≡◌, ℕ, suc, ◌+◌, ◌<◌, ◌≤◌, List, [], ◌∷◌, map, length, get_or, ℤ, pos, ◌+ℤ◌, neg_ℤ, nat_abs, ◌≤ℤ◌, All, refl, ap, ◌∙◌, arith}
 use borrow.Author.Differences.{ints}
+use Rattle.std.proofs.lemmas.List.Elements.{All-nil, All-cons, All-head, All-tail}
 use Rattle.mdp.specs.Table.{Branch, Choice, total_weight}
 use Rattle.plans.specs.Totals.{◌·◌, total}
 use Rattle.plans.specs.Blends.{Weighed, AtMost, all_weights, added}
@@ -11,8 +12,9 @@ use Rattle.plans.specs.Claims.{weighed_by, sum_of, BlendWithin}
 -- what holds of the amount of each branch, by its number
 pub all_weighed : (P : ℤ → Type 0) (f : ℕ → Branch → ℤ) (bs : Choice) → ((j : ℕ) → j < length bs → P (f j (get_or bs j no_branch))) →
     All (λ x. P x.amount) (weighed_by f bs)
-all_weighed P f [] h = tt
-all_weighed P f (b ∷ bs) h = (h 0 (omega arith), all_weighed P (λ j. f (suc j)) bs (λ j l. h (suc j) (omega arith)))
+all_weighed P f [] h = All-nil (λ (x : Weighed). P x.amount)
+all_weighed P f (b ∷ bs) h =
+    All-cons (λ (x : Weighed). P x.amount) _ (weighed_by (λ j. f (suc j)) bs) (h 0 (omega arith)) (all_weighed P (λ j. f (suc j)) bs (λ j l. h (suc j) (omega arith)))
 
 pub weighed_le : (f g : ℕ → Branch → ℤ) (bs : Choice) → ((j : ℕ) → j < length bs → f j (get_or bs j no_branch) ≤ℤ g j (get_or bs j no_branch)) →
     AtMost (weighed_by f bs) (weighed_by g bs)
@@ -47,15 +49,15 @@ empty_weights (x ∷ xs) = ap (λ n. x.weight + n) (empty_weights xs)
 
 empty_all : (xs : List Weighed) → All (λ x. x.amount ≡ pos 0) (map empty xs)
 unfolding empty
-empty_all [] = tt
-empty_all (x ∷ xs) = (refl, empty_all xs)
+empty_all [] = All-nil (λ (x : Weighed). x.amount ≡ pos 0)
+empty_all (x ∷ xs) = All-cons (λ (x : Weighed). x.amount ≡ pos 0) (empty x) (map empty xs) refl (empty_all xs)
 
 level_around : (a : ℕ) (xs : List Weighed) → All (λ x. nat_abs x.amount ≤ a) xs → AtMost (level (neg_ℤ (pos a)) xs) xs × AtMost xs (level (pos a) xs)
 unfolding level empty
 level_around a [] h = (tt, tt)
 level_around a (x ∷ xs) h =
-    let l = h.0 in
-    let r = level_around a xs h.1 in
+    let l : nat_abs x.amount ≤ a = All-head (λ (x : Weighed). nat_abs x.amount ≤ a) x xs h in
+    let r = level_around a xs (All-tail (λ (x : Weighed). nat_abs x.amount ≤ a) x xs h) in
     ((refl, omega (arith, ints), r.0), (refl, omega (arith, ints), r.1))
 
 pub blend_within : BlendWithin

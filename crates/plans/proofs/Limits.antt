@@ -1,14 +1,14 @@
 -- How large the numbers of a sweep get, also where nothing is read. Assumes nothing.
-use Rattle.std.proofs.Common.{◌≡◌, ℕ, zero, suc, ◌+◌, ◌-◌, ◌*◌, ◌<◌, ◌≤◌, true, false, cond, ltb, ◌⊎◌, List, [], ◌∷◌, length, get_or, replicate, ℤ, pos, ◌+ℤ◌, ◌*ℤ◌, nat_abs, All, refl, ap, ◌∙◌, subst, inl, inr, ⊎_elim, zero-le, suc-mul, arith}
+use Rattle.std.proofs.Common.{◌≡◌, ℕ, zero, suc, ◌+◌, ◌-◌, ◌*◌, ◌<◌, ◌≤◌, true, false, cond, ltb, ◌⊎◌, List, [], ◌∷◌, length, get_or, ℤ, pos, ◌+ℤ◌, ◌*ℤ◌, nat_abs, All, refl, ap, ◌∙◌, subst, inl, inr, ⊎_elim, zero-le, suc-mul, arith}
 use Rattle.std.specs.List.{range_with_len}
 use Rattle.std.proofs.lemmas.List.FromFn.{length-map-range_with_len}
-use Rattle.std.proofs.lemmas.List.Elements.{All-weaker, All-map}
+use Rattle.std.proofs.lemmas.List.Elements.{All-nil, All-cons, All-head, All-tail, All-replicate, All-weaker, All-map}
 use Rattle.std.proofs.lemmas.List.{length-replicate}
-use Rattle.mdp.specs.Table.{Branch, Choice, State, Table, total_weight, BranchFacts, ChoiceFacts, StateFacts, Facts}
+use Rattle.mdp.specs.Table.{Branch, Choice, Table, total_weight, BranchFacts, ChoiceFacts, StateFacts, Facts}
 use Rattle.plans.specs.declared.Objective.{Objective}
 use Rattle.plans.specs.declared.Row.{Row}
 use Rattle.plans.specs.Totals.{◌·◌, total}
-use Rattle.plans.specs.Blends.{Mean, all_weights, Lawful}
+use Rattle.plans.specs.Blends.{Weighed, Mean, all_weights, Lawful}
 use Rattle.plans.specs.Plans.{no_branch, no_objective, choices_at, choice_at, horizon, earns, earns_by}
 use Rattle.plans.specs.Sweep.{no_row, zero_row, ceiling_at, part_at, weighed, grains, choice_ceiling, choice_part, taken, row_by, row_at, rows}
 use Rattle.plans.proofs.Amounts.{natAbs_add, product_within}
@@ -17,8 +17,8 @@ use Rattle.plans.proofs.Blended.{blend_within}
 -- what holds of each element and of the default holds of what is read
 pub all_or : {X : Type 0} (P : X → Type 0) (xs : List X) (i : ℕ) (d : X) → P d → All P xs → P (get_or xs i d)
 all_or P [] i d p h = p
-all_or P (x ∷ xs) zero d p h = h.0
-all_or P (x ∷ xs) (suc i) d p h = all_or P xs i d p h.1
+all_or P (x ∷ xs) zero d p h = All-head P x xs h
+all_or P (x ∷ xs) (suc i) d p h = all_or P xs i d p (All-tail P x xs h)
 
 -- a table's branches and choices, or what is read in their place
 pub record Fair (t : Table) (b : Branch) : Type 0 where
@@ -44,15 +44,15 @@ module _ (t : Table) (f : Facts t) where
   fair_none = record { next = f.some; few = zero-le; rewards = λ i. zero-le }
 
   sound : (bs : Choice) → ChoiceFacts (length t.states) t.divisor t.columns bs → Sound t bs
-  sound bs h = record { whole = inr h.whole; light = omega (arith, h.whole); few = h.few; branches = All-weaker _ _ fair bs h.branches }
+  sound bs h = record { whole = inr h.whole; light = omega (arith, h.whole); few = h.few; branches = All-weaker (BranchFacts (length t.states) t.divisor t.columns) (Fair t) fair bs h.branches }
 
   sound_none : Sound t []
-  sound_none = record { whole = inl refl; light = zero-le; few = zero-le; branches = tt }
+  sound_none = record { whole = inl refl; light = zero-le; few = zero-le; branches = All-nil (Fair t) }
 
   pub sound_at : (s k : ℕ) → Sound t (choice_at t s k)
   sound_at s k =
-      let all : All (All (Sound t)) t.states = All-weaker _ _ (λ cs h. All-weaker _ _ sound cs h.choices) t.states f.each in
-      all_or (Sound t) (choices_at t s) k [] sound_none (all_or (All (Sound t)) t.states s [] tt all)
+      let all : All (All (Sound t)) t.states = All-weaker (StateFacts (length t.states) t.divisor t.columns) (All (Sound t)) (λ cs h. All-weaker (ChoiceFacts (length t.states) t.divisor t.columns) (Sound t) sound cs h.choices) t.states f.each in
+      all_or (Sound t) (choices_at t s) k [] sound_none (all_or (All (Sound t)) t.states s [] (All-nil (Sound t)) all)
 
   pub fair_at : (s k j : ℕ) → Fair t (get_or (choice_at t s k) j no_branch)
   fair_at s k j = all_or (Fair t) (choice_at t s k) j no_branch fair_none (sound_at s k).branches
@@ -96,20 +96,19 @@ unfolding Within
 part_read n next h i s = (all_or (Within n) next s no_row (within_none n) h).1 i
 
 all_true : {X : Type 0} {P : X → Type 0} → ((x : X) → P x) → (xs : List X) → All P xs
-all_true p [] = tt
-all_true p (x ∷ xs) = (p x, all_true p xs)
+all_true p xs = λ k d l. p (get_or xs k d)
 
-all_replicate : {X : Type 0} (P : X → Type 0) (n : ℕ) (x : X) → P x → All P (replicate n x)
-all_replicate P zero x p = tt
-all_replicate P (suc n) x p = (p, all_replicate P n x p)
+all_four : {X : Type 0} (P : X → Type 0) (a b c d : X) → P a → P b → P c → P d → All P (a ∷ b ∷ c ∷ d ∷ [])
+all_four P a b c d p q r s = All-cons P a (b ∷ c ∷ d ∷ []) p (All-cons P b (c ∷ d ∷ []) q (All-cons P c (d ∷ []) r (All-cons P d [] s (All-nil P))))
 
 weighed_weights : (g : Branch → ℤ) (bs : Choice) → all_weights (weighed g bs) ≡ total_weight bs
 weighed_weights g [] = refl
 weighed_weights g (b ∷ bs) = ap (λ n. b.weight + n) (weighed_weights g bs)
 
 weighed_small : (t : Table) (g : Branch → ℤ) (A : ℕ) → ((b : Branch) → Fair t b → nat_abs (g b) ≤ A) → (bs : Choice) → All (Fair t) bs → All (λ x. nat_abs x.amount ≤ A) (weighed g bs)
-weighed_small t g A each [] h = tt
-weighed_small t g A each (b ∷ bs) h = (each b h.0, weighed_small t g A each bs h.1)
+weighed_small t g A each [] h = All-nil (λ (x : Weighed). nat_abs x.amount ≤ A)
+weighed_small t g A each (b ∷ bs) h =
+    All-cons (λ (x : Weighed). nat_abs x.amount ≤ A) _ (weighed g bs) (each b (All-head (Fair t) b bs h)) (weighed_small t g A each bs (All-tail (Fair t) b bs h))
 
 module _ (t : Table) (f : Facts t) where
   blended_within : (mean : Mean) → Lawful mean → (g : Branch → ℤ) (A : ℕ) → ((b : Branch) → Fair t b → nat_abs (g b) ≤ A) → (s k : ℕ) → nat_abs (mean (weighed g (choice_at t s k)) t.divisor) ≤ A
@@ -117,7 +116,7 @@ module _ (t : Table) (f : Facts t) where
       let bs = choice_at t s k in
       let h = sound_at t f s k in
       ⊎_elim
-      (λ e. let none : mean (weighed g bs) t.divisor ≡ pos 0 = ap (λ bs. mean (weighed g bs) t.divisor) e ∙ laws.none [] t.divisor f.divisor_low tt in omega (arith, ap nat_abs none))
+      (λ e. let none : mean (weighed g bs) t.divisor ≡ pos 0 = ap (λ bs. mean (weighed g bs) t.divisor) e ∙ laws.none [] t.divisor f.divisor_low (All-nil (λ (x : Weighed). x.amount ≡ pos 0)) in omega (arith, ap nat_abs none))
       (λ e. blend_within mean (weighed g bs) t.divisor A laws f.divisor_low (weighed_weights g bs ∙ e) (weighed_small t g A each bs h.branches))
       h.whole
 
@@ -139,11 +138,11 @@ module _ (t : Table) (f : Facts t) where
       unfolding Within
       row_by_within =
           let p = choice_part_within in
-          (choice_ceiling_within, λ i. all_or (λ z. nat_abs z ≤ n + 262144000000) (row_by up down t os ws step next s k).parts i (pos 0) zero-le (p 0, (p 1, (p 2, (p 3, tt)))))
+          (choice_ceiling_within, λ i. all_or (λ z. nat_abs z ≤ n + 262144000000) (row_by up down t os ws step next s k).parts i (pos 0) zero-le (all_four (λ z. nat_abs z ≤ n + 262144000000) _ _ _ _ (p 0) (p 1) (p 2) (p 3)))
 
     rows_within_each : (n : ℕ) → All (Within (n * 262144000000)) (rows up down t os ws n)
     unfolding rows Within
-    rows_within_each zero = all_replicate (Within 0) (length t.states) zero_row (zero-le, λ i. all_or (λ z. nat_abs z ≤ 0) zero_row.parts i (pos 0) zero-le (zero-le, (zero-le, (zero-le, (zero-le, tt)))))
+    rows_within_each zero = All-replicate (Within 0) (length t.states) zero_row (zero-le, λ i. all_or (λ z. nat_abs z ≤ 0) zero_row.parts i (pos 0) zero-le (all_four (λ z. nat_abs z ≤ 0) _ _ _ _ zero-le zero-le zero-le zero-le))
     rows_within_each (suc n) =
         let step = horizon os - suc n in
         let next = rows up down t os ws n in
@@ -165,4 +164,7 @@ rows_length up down t os ws (suc n) = length-map-range_with_len (row_at up down 
 
 pub horizon_few : (os : List Objective) → All (λ o. o.bound ≤ 256) os → horizon os ≤ 256
 horizon_few [] h = zero-le
-horizon_few (o ∷ os) h = let r = horizon_few os h.1 in let b = h.0 in omega arith
+horizon_few (o ∷ os) h =
+    let r = horizon_few os (All-tail (λ (o : Objective). o.bound ≤ 256) o os h) in
+    let b : o.bound ≤ 256 = All-head (λ (o : Objective). o.bound ≤ 256) o os h in
+    omega arith

@@ -2,6 +2,7 @@
 use Rattle.std.proofs.Common.{◌≡◌, ℕ, ◌/◌, ◌<◌, List, [], ◌∷◌, map, ℤ, pos, negsuc, ◌+ℤ◌, neg_ℤ, ◌≤ℤ◌, ◌<ℤ◌, All, refl, ap, ◌∙◌, arith}
 use native.Mathlib.Nat.{mul-div-le, lt-mul-div-succ, zero-div}
 use borrow.Author.Differences.{ints, same_in, same_out, sum_is_lem, neg_is, product_is, le_out, lt_out, at_most_in, below_in}
+use Rattle.std.proofs.lemmas.List.Elements.{All-head, All-tail}
 use Rattle.plans.specs.Totals.{◌·◌}
 use Rattle.plans.specs.Blends.{Weighed, Lawful, AtMost, running, more_by, all_weights, added, floor_div, ceiling_div}
 use Rattle.plans.specs.Claims.{sum_of, MeansLawful, MeanUpLeast, MeanDownGreatest}
@@ -63,8 +64,8 @@ sum_added c (x ∷ xs) =
 sum_none : (xs : List Weighed) → All (λ x. x.amount ≡ pos 0) xs → sum_of xs ≡ pos 0
 sum_none [] h = refl
 sum_none (x ∷ xs) h =
-    let a = ap (λ z. x.weight · z) h.0 ∙ scale_zero x.weight in
-    let r = sum_none xs h.1 in
+    let a = ap (λ z. x.weight · z) (All-head (λ (x : Weighed). x.amount ≡ pos 0) x xs h) ∙ scale_zero x.weight in
+    let r = sum_none xs (All-tail (λ (x : Weighed). x.amount ≡ pos 0) x xs h) in
     omega (arith, same_in, same_out, sum_is_lem)
 
 -- ---- the laws, of a division that keeps order, shifts and 0

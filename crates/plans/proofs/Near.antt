@@ -2,7 +2,7 @@
 use Rattle.std.proofs.Common.{◌≡◌, ℕ, suc, ◌-◌, ◌*◌, ◌^◌, ◌<◌, ◌≤◌, ltb, List, [], ◌∷◌, length, get_or, ℤ, pos, negsuc, ◌+ℤ◌, neg_ℤ, ◌≤ℤ◌, ◌<ℤ◌, ap, mul-pos, arith}
 use native.Mathlib.Nat.{mul-lt-mul_of_pos_left, one-le-pow}
 use borrow.Author.Differences.{ints, same_out, sum_is_lem, neg_is, product_is, le_out, lt_out, at_most_in, below_in}
-use Rattle.std.proofs.lemmas.List.Elements.{All-get_or, All-weaker}
+use Rattle.std.proofs.lemmas.List.Elements.{All-nil, All-cons, All-head, All-tail, All-get_or, All-weaker}
 use Rattle.std.proofs.lemmas.Int.{by_lt_z}
 use Rattle.std.proofs.lemmas.Bool.{cond-false, le-ltb}
 use Rattle.mdp.specs.Table.{Branch, Table, Facts}
@@ -76,11 +76,15 @@ module _ (t : Table) (facts : Facts t) (k : ℕ) (r : Earning) (n s : ℕ) (p : 
         )
 
 pub horizon_covers : HorizonCovers
-horizon_covers [] = (tt, λ k h. omega arith)
+horizon_covers [] = (All-nil (λ (o : Objective). o.bound ≤ horizon []), λ k h. omega arith)
 horizon_covers (o ∷ os) =
     let r = horizon_covers os in (
-      (omega arith, All-weaker (λ (o : Objective). o.bound ≤ horizon os) (λ (q : Objective). q.bound ≤ horizon (o ∷ os)) (λ q l. omega arith) os r.0),
-      λ k h. let a = r.1 k h.1 in let b = h.0 in omega arith,
+      All-cons (λ (q : Objective). q.bound ≤ horizon (o ∷ os)) o os (omega arith)
+          (All-weaker (λ (o : Objective). o.bound ≤ horizon os) (λ (q : Objective). q.bound ≤ horizon (o ∷ os)) (λ q l. omega arith) os r.0),
+      λ k h.
+          let a = r.1 k (All-tail (λ (o : Objective). o.bound ≤ k) o os h) in
+          let b : o.bound ≤ k = All-head (λ (o : Objective). o.bound ≤ k) o os h in
+          omega arith,
     )
 
 pub ceiling_bounds : CeilingBounds

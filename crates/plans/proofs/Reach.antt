@@ -3,7 +3,7 @@ use Rattle.std.proofs.Common.{ℕ, ◌*◌, ◌^◌, ◌<◌, ◌≤◌, List, [
 use native.Mathlib.Nat.{one-le-pow}
 use lib.ListN.{length-map}
 use borrow.Author.Differences.{same_out, sum_is_lem, le_out, lt_out, at_most_in, below_in}
-use Rattle.std.proofs.lemmas.List.Elements.{All-get_or, All-weaker, All-map}
+use Rattle.std.proofs.lemmas.List.Elements.{All-head, All-get_or, All-weaker, All-map}
 use Rattle.plans.specs.declared.Objective.{Objective}
 use Rattle.plans.specs.Totals.{◌·◌, weight_sum, total}
 use Rattle.plans.specs.Blends.{mean_up, mean_down}
@@ -17,7 +17,7 @@ use Rattle.plans.proofs.Near.{ceiling_bounds, ceiling_near, part_reached, part_n
 
 some_share : (ms : List Share) → 1 ≤ length ms → All (λ m. 1 ≤ m.share) ms → 0 < weight_sum share_of ms
 some_share [] h a = h
-some_share (m ∷ ms) h a = omega (arith, a.0)
+some_share (m ∷ ms) h a = omega (arith, All-head (λ (m : Share). 1 ≤ m.share) m ms a)
 
 pub out_of_reach : OutOfReach
 out_of_reach t os ws ms facts low mixture meets =

@@ -1,6 +1,7 @@
 -- How large the rows of a sweep get. Assumes nothing.
 use Rattle.std.proofs.Common.{ℕ, zero, suc, ◌-◌, ◌*◌, ◌<◌, ◌≤◌, true, false, cond, ltb, List, [], ◌∷◌, length, get_or, ℤ, pos, negsuc, nat_abs, All, ◌∙◌, ⊎_elim, zero-le, mul-le-mul_left, arith}
 use borrow.Author.Differences.{ints}
+use Rattle.std.proofs.lemmas.List.Elements.{All-head, All-tail}
 use Rattle.std.proofs.lemmas.Bool.{cases_lt}
 use Rattle.mdp.specs.Table.{Branch, Table, Facts}
 use Rattle.plans.specs.declared.Objective.{Objective}
@@ -26,8 +27,8 @@ total_within u f (x ∷ xs) a h =
 
 reward_within : (rs : List ℤ) (i : ℕ) → All (λ r. nat_abs r ≤ 1000) rs → nat_abs (get_or rs i (pos 0)) ≤ 1000
 reward_within [] i h = zero-le
-reward_within (r ∷ rs) zero h = h.0
-reward_within (r ∷ rs) (suc i) h = reward_within rs i h.1
+reward_within (r ∷ rs) zero h = All-head (λ r. nat_abs r ≤ 1000) r rs h
+reward_within (r ∷ rs) (suc i) h = reward_within rs i (All-tail (λ r. nat_abs r ≤ 1000) r rs h)
 
 earns_within : (o : Objective) (step : ℕ) (b : Branch) → All (λ r. nat_abs r ≤ 1000) b.rewards → nat_abs (earns o step b) ≤ 1000
 earns_within o step b h =

@@ -1,5 +1,5 @@
 -- Plans, mixtures of plans, and their exact expected rewards, in whole multiples of 1 / divisor ^ steps. Assumes nothing.
-use Rattle.std.specs.Prelude.{ℕ, zero, suc, ◌+◌, ◌-◌, ◌*◌, ◌^◌, ◌<◌, ◌≤◌, max, cond, List, [], ◌∷◌, length, get_or, ℤ, pos, ◌+ℤ◌, ◌≤ℤ◌, All, nat_lt, slice_index, slice_index_or}
+use Rattle.std.specs.Prelude.{ℕ, zero, suc, ◌-◌, ◌*◌, ◌^◌, ◌<◌, ◌≤◌, max, cond, List, [], ◌∷◌, length, get_or, ℤ, pos, ◌+ℤ◌, ◌≤ℤ◌, All, nat_lt, slice_index, slice_index_or}
 use Rattle.mdp.specs.Table.{Branch, Choice, State, Table}
 use Rattle.plans.specs.declared.Objective.{Objective}
 use Rattle.plans.specs.Totals.{◌·◌, weight_sum, total}

@@ -1,11 +1,11 @@
 -- The backward sweep: step-bounded value iteration of weighted rewards, over any two blends. Assumes nothing.
 use Rattle.std.specs.Prelude.{ℕ, zero, suc, ◌-◌, cond, List, [], ◌∷◌, map, length, get_or, replicate, ℤ, pos, ◌+ℤ◌, ◌*ℤ◌, int_lt, nat_lt, slice_index_or}
 use Rattle.std.specs.List.{range_with_len}
-use Rattle.mdp.specs.Table.{Branch, Choice, State, Table}
+use Rattle.mdp.specs.Table.{Branch, Choice, Table}
 use Rattle.plans.specs.declared.Objective.{Objective}
 use Rattle.plans.specs.declared.Row.{Row}
 use Rattle.plans.specs.Blends.{Weighed, Mean}
-use Rattle.plans.specs.Plans.{Earning, Plan, no_objective, choices_at, choice_at, next_at, earns, earns_by, horizon, after}
+use Rattle.plans.specs.Plans.{Earning, Plan, no_objective, choices_at, choice_at, next_at, earns, earns_by, horizon}
 
 -- what a read past the rows gives
 abbrev pub no_row : Row
