@@ -1,6 +1,6 @@
 -- Which objectives a draft takes, and what it then holds. Assumes nothing.
 use Rattle.std.proofs.Common.{List, [], ◌∷◌, ◌++◌, Decides, fold, arith}
-use Rattle.std.proofs.lemmas.List.Elements.{All-push}
+use Rattle.std.proofs.lemmas.List.Elements.{All-nil, All-push}
 use Rattle.std.proofs.lemmas.List.{length_push}
 use Rattle.std.proofs.lemmas.Bool.{not-true}
 use Rattle.std.proofs.lemmas.Bool.Decides.{nat_tests, Decides-not}
@@ -37,4 +37,4 @@ more_posable t (o ∷ offers) os p =
     p)
 
 pub drafted_posable : (t : Table) (offers : List Objective) → Posable t (drafted t.columns offers)
-drafted_posable t offers = more_posable t offers [] (record { few = omega arith; each = tt })
+drafted_posable t offers = more_posable t offers [] (record { few = omega arith; each = All-nil (Accepted t) })

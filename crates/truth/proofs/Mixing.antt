@@ -1,6 +1,7 @@
 -- The mixture of the rows with positive shares. Assumes nothing.
 use Rattle.std.proofs.Common.{◌≡◌, ℕ, ◌≤◌, cond, ltb, List, [], ◌∷◌, ◌++◌, map, length, get_or, ℤ, pos, ◌+ℤ◌, All, sum, refl, ap, arith}
 use borrow.Author.Differences.{same_in, same_out, sum_is_lem, product_is}
+use Rattle.std.proofs.lemmas.List.Elements.{All-nil, All-cons, All-head, All-tail}
 use Rattle.std.proofs.lemmas.List.Sums.{sum_by-cons}
 use Rattle.std.proofs.lemmas.Bool.{cond_both, ltb-true, ltb-false}
 use Rattle.mdp.specs.Table.{Table, Facts}
@@ -12,11 +13,11 @@ use Rattle.plans.proofs.Reach.{mixture_valid}
 use Rattle.truth.specs.Dockets.{Priced, point, part_sum, backed}
 
 backed_shares : (ss : List ℕ) (rs : List Priced) → All (λ c. 1 ≤ c.share) (backed ss rs)
-backed_shares [] rs = tt
-backed_shares (s ∷ ss) [] = tt
+backed_shares [] rs = All-nil (λ (c : Candidate). 1 ≤ c.share)
+backed_shares (s ∷ ss) [] = All-nil (λ (c : Candidate). 1 ≤ c.share)
 backed_shares (s ∷ ss) (r ∷ rs) =
     cond_both (ltb 0 s) (record { share = s; weights = r.weights } ∷ backed ss rs) (backed ss rs) (All (λ c. 1 ≤ c.share))
-    (λ e. (ltb-true 0 s e, backed_shares ss rs)) (λ e. backed_shares ss rs)
+    (λ e. All-cons (λ (c : Candidate). 1 ≤ c.share) _ (backed ss rs) (ltb-true 0 s e) (backed_shares ss rs)) (λ e. backed_shares ss rs)
 
 -- a later row has no share
 pub backed_more : (ss : List ℕ) (rs qs : List Priced) → length ss ≤ length rs → backed ss (rs ++ qs) ≡ backed ss rs
@@ -40,11 +41,12 @@ backed_parts t os i [] [] h told = refl
 backed_parts t os i [] (r ∷ rs) h told = absurd (omega arith)
 backed_parts t os i (s ∷ ss) [] h told = absurd (omega arith)
 backed_parts t os i (s ∷ ss) (r ∷ rs) h told =
-    let g = backed_parts t os i ss rs (omega arith) told.1 in
+    let Told : Priced → Type 0 = λ r. r.point ≡ point t os r.weights in
+    let g = backed_parts t os i ss rs (omega arith) (All-tail Told r rs told) in
     let p = get_or r.point i (pos 0) in
     cond_both (ltb 0 s) (record { share = s; weights = r.weights } ∷ backed ss rs) (backed ss rs)
     (λ cs. total candidate_share (λ j c. get_or (point t os c.weights) i (pos 0)) cs ≡ s · p +ℤ part_sum ss rs i)
-    (λ e. let a = ap (λ (ps : List ℤ). s · get_or ps i (pos 0)) told.0 in omega (arith, same_in, same_out, sum_is_lem))
+    (λ e. let a = ap (λ (ps : List ℤ). s · get_or ps i (pos 0)) (All-head Told r rs told) in omega (arith, same_in, same_out, sum_is_lem))
     (λ e.
     let z : s ≡ 0 = omega (arith, ltb-false 0 s e) in
     let a = ap (λ (n : ℕ). n · p) z in

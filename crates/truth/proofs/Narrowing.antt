@@ -2,7 +2,7 @@
 use Rattle.std.proofs.Common.{◌≡◌, ℕ, zero, suc, ◌+◌, ◌-◌, ◌/◌, ◌^◌, ◌<◌, ◌≤◌, ◌&&◌, ltb, ◌⊎◌, List, [], ◌∷◌, ◌++◌, length, get_or, take, pos, ◌<ℤ◌, Decides, fold, All, Contains, sym, refl, ap, subst, inl, inr, arith}
 use borrow.Author.Differences.{ints}
 use lib.Signed.{le_z, lt_z}
-use Rattle.std.proofs.lemmas.List.Elements.{All-contains, All-contains_itself, Contains-append_left, Contains-push, Contains-push_cases}
+use Rattle.std.proofs.lemmas.List.Elements.{All-nil, All-cons, All-head, All-tail, All-contains, All-contains_itself, Contains-append_left, Contains-push, Contains-push_cases}
 use Rattle.std.proofs.lemmas.List.{length-append, append-nil, append_assoc}
 use Rattle.std.proofs.lemmas.Bool.{cond_both, and_parts, and_cases, ltb-true, ltb-false, false≢true}
 use Rattle.std.proofs.lemmas.Bool.Decides.{not_from_Decides}
@@ -85,14 +85,14 @@ module _ (t : Table) where
   Toward ws = (a : ℕ) × (a ≤ 1000) × (ws ≡ toward a)
 
   narrows_toward : (wss : List (List ℕ)) (d : Docket) (lo hi : ℕ) → hi ≤ 1000 → Narrows d lo hi wss → All Toward wss
-  narrows_toward [] d lo hi h n = tt
-  narrows_toward (ws ∷ wss) d lo hi h (w, o, e, inl (b, r)) = (((lo + hi) / 2, omega arith, e), narrows_toward wss (priced t d ws) lo ((lo + hi) / 2) (omega arith) r)
-  narrows_toward (ws ∷ wss) d lo hi h (w, o, e, inr (b, r)) = (((lo + hi) / 2, omega arith, e), narrows_toward wss (priced t d ws) ((lo + hi) / 2) hi h r)
+  narrows_toward [] d lo hi h n = All-nil Toward
+  narrows_toward (ws ∷ wss) d lo hi h (w, o, e, inl (b, r)) = All-cons Toward ws wss ((lo + hi) / 2, omega arith, e) (narrows_toward wss (priced t d ws) lo ((lo + hi) / 2) (omega arith) r)
+  narrows_toward (ws ∷ wss) d lo hi h (w, o, e, inr (b, r)) = All-cons Toward ws wss ((lo + hi) / 2, omega arith, e) (narrows_toward wss (priced t d ws) ((lo + hi) / 2) hi h r)
 
   pub prices_toward : (d : Docket) → All Toward (settle_prices t d)
   prices_toward d =
-      prices_cases d (All Toward) (λ v. ((0, omega arith, refl), tt))
-      (λ v wss n. ((0, omega arith, refl), ((1000, omega arith, refl), narrows_toward wss (both_ends d) 0 1000 (omega arith) n)))
+      prices_cases d (All Toward) (λ v. All-cons Toward (toward 0) [] (0, omega arith, refl) (All-nil Toward))
+      (λ v wss n. All-cons Toward (toward 0) (toward 1000 ∷ wss) (0, omega arith, refl) (All-cons Toward (toward 1000) wss (1000, omega arith, refl) (narrows_toward wss (both_ends d) 0 1000 (omega arith) n)))
 
   -- ---- each is of an open docket, so only the last can refute
   abbrev WhileOpen : Docket → List (List ℕ) → Type 0
@@ -112,9 +112,9 @@ module _ (t : Table) where
       (front : List (List ℕ)) × (wss ≡ front ++ (ws ∷ [])) × All (NotBelow t os) front × (c ≡ ceiling t os ws) × (s ≡ target_sum ws os) × (c <ℤ s)
 
   gave_more : (os : List Objective) (ws : List ℕ) (wss : List (List ℕ)) (v : Verdict) → NotBelow t os ws → Gave os wss v → Gave os (ws ∷ wss) v
-  gave_more os ws wss Open h g = (h, g)
+  gave_more os ws wss Open h g = All-cons (NotBelow t os) ws wss h g
   gave_more os ws wss (Achieved ss) h g = g
-  gave_more os ws wss (Refuted qs c s) h (front, e, a, b, x, y) = (ws ∷ front, ap (λ xs. ws ∷ xs) e, (h, a), b, x, y)
+  gave_more os ws wss (Refuted qs c s) h (front, e, a, b, x, y) = (ws ∷ front, ap (λ xs. ws ∷ xs) e, All-cons (NotBelow t os) ws front h a, b, x, y)
 
   -- an open docket after one pricing
   one_priced : (d : Docket) (ws : List ℕ) (P : Verdict → Type 0) → d.verdict ≡ Open →
@@ -130,7 +130,7 @@ module _ (t : Table) where
 
   gave : (ws : List ℕ) (wss : List (List ℕ)) (d : Docket) → WhileOpen d (ws ∷ wss) → Gave d.objectives (ws ∷ wss) (fold (priced t) d (ws ∷ wss)).verdict
   unfolding priced
-  gave ws [] d (e, w) = one_priced d ws (Gave d.objectives (ws ∷ [])) e (λ l. ([], refl, tt, refl, refl, l)) (λ h. (h, tt))
+  gave ws [] d (e, w) = one_priced d ws (Gave d.objectives (ws ∷ [])) e (λ l. ([], refl, All-nil (NotBelow t d.objectives), refl, refl, l)) (λ h. All-cons (NotBelow t d.objectives) ws [] h (All-nil (NotBelow t d.objectives)))
   gave ws (x ∷ wss) d (e, w) =
       let high = one_priced d ws (λ v. v ≡ Open → NotBelow t d.objectives ws) e (λ l q. absurd (false≢true (cc))) (λ h q. h) w.0 in
       gave_more d.objectives ws (x ∷ wss) (fold (priced t) (priced t d ws) (x ∷ wss)).verdict high (gave x wss (priced t d ws) w)
@@ -159,9 +159,9 @@ module _ (t : Table) where
         | inr y ↦ absurd (y v)
       ]
   narrows_closes Q (ws ∷ wss) d lo hi l (w, o, e, inl (b, r)) v ql qh low high h =
-      narrows_closes Q wss (priced t d ws) lo ((lo + hi) / 2) (omega arith) r v ql (subst Q e h.0) low (inr b) h.1
+      narrows_closes Q wss (priced t d ws) lo ((lo + hi) / 2) (omega arith) r v ql (subst Q e (All-head Q ws wss h)) low (inr b) (All-tail Q ws wss h)
   narrows_closes Q (ws ∷ wss) d lo hi l (w, o, e, inr (b, r)) v ql qh low high h =
-      narrows_closes Q wss (priced t d ws) ((lo + hi) / 2) hi (omega arith) r v (subst Q e h.0) qh (inr b) high h.1
+      narrows_closes Q wss (priced t d ws) ((lo + hi) / 2) hi (omega arith) r v (subst Q e (All-head Q ws wss h)) qh (inr b) high (All-tail Q ws wss h)
 
   -- ---- each is in the middle of a gap between two that were priced
   abbrev Gap : List Objective → List (List ℕ) → ℕ → ℕ → Type 0
@@ -201,9 +201,14 @@ module _ (t : Table) where
       let ends = toward 0 ∷ toward 1000 ∷ [] in
       let each = All-contains_itself ends in
       let none : (b : ℕ) → 0 < b → b < 1000 → ¬ Contains ends (toward b) =
-      λ b l h has. All-contains (λ ws. ¬ (ws ≡ toward b)) ends (toward b)
-      ((λ e. let z : 0 ≡ b = cc in omega arith), ((λ e. let z : 1000 ≡ b = cc in omega arith), tt)) has refl in
-      (each.0, each.1.0, none, inl refl, inl refl)
+      λ b l h has.
+      let Other : List ℕ → Type 0 = λ ws. ¬ (ws ≡ toward b) in
+      let others = All-cons Other (toward 0) (toward 1000 ∷ []) (λ e. let z : 0 ≡ b = cc in omega arith)
+      (All-cons Other (toward 1000) [] (λ e. let z : 1000 ≡ b = cc in omega arith) (All-nil Other)) in
+      All-contains Other ends (toward b) others has refl in
+      let first = All-head (Contains ends) (toward 0) (toward 1000 ∷ []) each in
+      let last = All-head (Contains ends) (toward 1000) [] (All-tail (Contains ends) (toward 0) (toward 1000 ∷ []) each) in
+      (first, last, none, inl refl, inl refl)
 
   after_ends : (d : Docket) (front back : List (List ℕ)) (ws : List ℕ) (wss : List (List ℕ)) → Narrows (both_ends d) 0 1000 wss →
       toward 0 ∷ toward 1000 ∷ wss ≡ front ++ (ws ∷ back) → 2 ≤ length front → InMiddle d.objectives front ws
@@ -225,7 +230,11 @@ settle_closes t d =
     (λ o wss n v.
     let all = toward 0 ∷ toward 1000 ∷ wss in
     let h = All-contains_itself all in
-    (refl, narrows_closes t (Contains all) wss (both_ends t d) 0 1000 (omega arith) n v h.0 h.1.0 (inl refl) (inl refl) h.1.1))
+    let rest = All-tail (Contains all) (toward 0) (toward 1000 ∷ wss) h in (
+      refl,
+      narrows_closes t (Contains all) wss (both_ends t d) 0 1000 (omega arith) n v (All-head (Contains all) (toward 0) (toward 1000 ∷ wss) h) (All-head (Contains all) (toward 1000) wss rest)
+          (inl refl) (inl refl) (All-tail (Contains all) (toward 1000) wss rest),
+    ))
 
 pub settle_halves : SettleHalves
 settle_halves t d front back ws =

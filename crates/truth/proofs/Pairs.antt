@@ -1,7 +1,7 @@
 -- The pairs of rows that settle tries to mix: the first that passes, and what their shares come to. Assumes nothing.
 use Rattle.std.proofs.Common.{◌≡◌, ℕ, zero, suc, ◌+◌, ◌-◌, ◌<◌, ◌≤◌, Bool, true, false, cond, eqb, ◌⊎◌, List, [], ◌∷◌, ◌++◌, map, length, get_or, take, set, replicate, All, sum, filter, refl, ap, ◌∙◌, subst, inl, inr, arith}
 use Rattle.std.specs.List.{range_with_len}
-use Rattle.std.proofs.lemmas.List.Elements.{All-from_get_or}
+use Rattle.std.proofs.lemmas.List.Elements.{All-nil, All-cons, All-head, All-tail, All-from_get_or}
 use Rattle.std.proofs.lemmas.List.FromFn.{fill_by_all}
 use Rattle.std.proofs.lemmas.List.{length-set, length-replicate, get_or-set_same, get_or-set_other, get_or-replicate}
 use Rattle.std.proofs.lemmas.List.Sums.{sum_by-set, sum_by-le}
@@ -21,10 +21,10 @@ module _ {Y : Type 0} (f : Y → Bool) where
   First (x ∷ xs) y = ((f x ≡ true) × (y ≡ x)) ⊎ ((f x ≡ false) × First xs y)
 
   pub first_cases : (xs : List Y) (P : List Y → Type 0) → (NoneIn xs → P []) → ((y : Y) → First xs y → P (y ∷ [])) → P (take 1 (filter f xs))
-  first_cases [] P none some = none tt
+  first_cases [] P none some = none (All-nil (λ (y : Y). f y ≡ false))
   first_cases (x ∷ xs) P none some =
       cond_both (f x) (x ∷ filter f xs) (filter f xs) (λ ys. P (take 1 ys))
-      (λ e. some x (inl (e, refl))) (λ e. first_cases xs P (λ h. none (e, h)) (λ y h. some y (inr (e, h))))
+      (λ e. some x (inl (e, refl))) (λ e. first_cases xs P (λ h. none (All-cons (λ (y : Y). f y ≡ false) x xs e h)) (λ y h. some y (inr (e, h))))
 
   pub first_passes : (xs : List Y) (y : Y) → First xs y → f y ≡ true
   first_passes [] y h = absurd h
@@ -32,13 +32,15 @@ module _ {Y : Type 0} (f : Y → Bool) where
   first_passes (x ∷ xs) y (inr (e, h)) = first_passes xs y h
 
   first_append : (xs ys : List Y) (y : Y) → First (xs ++ ys) y → First xs y ⊎ (NoneIn xs × First ys y)
-  first_append [] ys y h = inr (tt, h)
+  first_append [] ys y h = inr (All-nil (λ (y : Y). f y ≡ false), h)
   first_append (x ∷ xs) ys y (inl h) = inl (inl h)
-  first_append (x ∷ xs) ys y (inr (e, h)) = elim (first_append xs ys y h) [ inl a ↦ inl (inr (e, a)) | inr (b, c) ↦ inr ((e, b), c) ]
+  first_append (x ∷ xs) ys y (inr (e, h)) = elim (first_append xs ys y h) [ inl a ↦ inl (inr (e, a)) | inr (b, c) ↦ inr (All-cons (λ (y : Y). f y ≡ false) x xs e b, c) ]
 
   none_append : (xs ys : List Y) → NoneIn (xs ++ ys) → NoneIn xs × NoneIn ys
-  none_append [] ys h = (tt, h)
-  none_append (x ∷ xs) ys (e, h) = let r = none_append xs ys h in ((e, r.0), r.1)
+  none_append [] ys h = (All-nil (λ (y : Y). f y ≡ false), h)
+  none_append (x ∷ xs) ys h =
+      let r = none_append xs ys (All-tail (λ (y : Y). f y ≡ false) x (xs ++ ys) h) in
+      (All-cons (λ (y : Y). f y ≡ false) x xs (All-head (λ (y : Y). f y ≡ false) x (xs ++ ys) h) r.0, r.1)
 
   -- in lists that are gathered over numbers from c on
   module _ (g : ℕ → List Y) where
@@ -79,7 +81,7 @@ module _ (n : ℕ) where
 
   module _ (f : List ℕ → Bool) where
     none_share : (r s a : ℕ) → a ≤ 1000 → NoneIn f (by_second r s) → f (paired n r s a) ≡ false
-    none_share r s a l none = (none_gathered f (by_share r s) 1001 0 none a (omega arith) (omega arith)).0
+    none_share r s a l none = All-head (λ ss. f ss ≡ false) (paired n r s a) [] (none_gathered f (by_share r s) 1001 0 none a (omega arith) (omega arith))
 
     none_second : (r s a : ℕ) → r < s → s < n → a ≤ 1000 → NoneIn f (by_first r) → f (paired n r s a) ≡ false
     none_second r s a h l w none = none_share r s a w (none_gathered f (by_second r) (n - suc r) (suc r) none s (omega arith) (omega arith))
@@ -101,7 +103,7 @@ module _ (n : ℕ) where
               elim b [
                 | inl x ↦ none_second q.first q.second q.share o.rising o.within o.small (nr q.first (omega arith) x)
                 | inr (e, inl x) ↦ ap (λ (r : ℕ). f (paired n r q.second q.share)) e ∙ none_share r q.second q.share o.small (ns q.second (omega (arith, e, o.rising)) x)
-                | inr (e, inr (g, x)) ↦ (λ i. f (paired n (e i) (g i) q.share)) ∙ (na q.share (omega arith) x).0
+                | inr (e, inr (g, x)) ↦ (λ i. f (paired n (e i) (g i) q.share)) ∙ All-head (λ ss. f ss ≡ false) (paired n r s q.share) [] (na q.share (omega arith) x)
               ]),
         )
 

@@ -1,6 +1,6 @@
 -- The rows of a docket's table after each call but settle. Assumes nothing.
 use Rattle.std.proofs.Common.{◌≡◌, ℕ, suc, ◌<◌, max, true, false, not, List, [], ◌∷◌, ◌++◌, length, get_or, take, ℤ, None, sym, refl, ap, ◌∙◌, inl, inr, arith}
-use Rattle.std.proofs.lemmas.List.Elements.{All-push, All-weaker}
+use Rattle.std.proofs.lemmas.List.Elements.{All-nil, All-push, All-weaker}
 use Rattle.std.proofs.lemmas.List.{length_push, get_or_append_left, get_or_push, take_all, take_at}
 use Rattle.std.proofs.lemmas.List.Sums.{prefix_len-le-length}
 use Rattle.std.proofs.lemmas.Bool.{cond_both, ltb-true, ltb-false, cases_lt}
@@ -42,7 +42,7 @@ module _ (t : Table) where
   orderly_judged d v o = record { posable = o.posable; few = o.few; weighs = o.weighs; told = o.told; apart = o.apart }
 
   pub orderly_none : (os : List Objective) → Posable t os → Orderly t (posed os)
-  orderly_none os p = record { posable = p; few = omega arith; weighs = tt; told = tt; apart = λ i j ji il. absurd (omega arith) }
+  orderly_none os p = record { posable = p; few = omega arith; weighs = All-nil (λ (r : Priced). Weighs os r.weights); told = All-nil (λ (r : Priced). r.point ≡ point t os r.weights); apart = λ i j ji il. absurd (omega arith) }
 
   pub orderly_mixed : (d : Docket) (ss : List ℕ) → Orderly t d → Orderly t (mixed d ss)
   unfolding mixed

@@ -1,8 +1,9 @@
 -- What a settle makes of a docket. Assumes nothing.
-use Rattle.std.proofs.Common.{◌≡◌, ℕ, suc, ◌+◌, ◌*◌, ◌≤◌, List, [], ◌∷◌, ◌++◌, map, length, take, None, fold, All, sum, filter, Option, sym, refl, ap, ◌∙◌, subst, inl, arith}
+use Rattle.std.proofs.Common.{◌-◌, ◌≡◌, ℕ, suc, ◌+◌, ◌*◌, ◌≤◌, List, [], ◌∷◌, ◌++◌, map, length, take, None, fold, All, sum, filter, Option, sym, refl, ap, ◌∙◌, subst, inl, arith}
 use Rattle.std.proofs.lemmas.List.{length_push}
 use Rattle.std.proofs.lemmas.Bool.{cond_both, false≢true}
 use Rattle.std.proofs.lemmas.Bool.Decides.{not_from_Decides}
+use Rattle.std.proofs.lemmas.List.Elements.{All-nil, All-cons, All-head, All-tail}
 use Rattle.mdp.specs.Table.{Table}
 use Rattle.truth.specs.Dockets.{Verdict, Open, Achieved, Refuted, Docket, judged, meets, is_open, priced, mixed, cleared, toward, pairings, settle_prices, settle_priced, settle_mixes, settled}
 use Rattle.truth.specs.Calls.{Call, price, mix, clear, settle, Fault, refusal, if_taken, effect, ran}
@@ -108,10 +109,11 @@ module _ (t : Table) where
         All (Toward t) wss → AllTaken (fold (priced t) d wss) cs → AllTaken d (to_price wss ++ cs)
     unfolding priced
     prices_taken rich [] cs d two room h r = r
-    prices_taken rich (ws ∷ wss) cs d two room ((a, small, e), h) r =
+    prices_taken rich (ws ∷ wss) cs d two room h r =
+        let (a, small, e) = All-head (Toward t) ws wss h in
         let fits : refusal t d (price (toward a) lent) ≡ None =
-        ((taken_exactly t d).price_if (toward a) lent).1 (record { each = sym two; small = (small, (omega arith, tt)); some = omega arith }, rich, inl (omega arith)) in
-        (rw e fits, prices_taken rich wss cs (priced t d ws) two (omega (arith, row_more d ws)) h r)
+        ((taken_exactly t d).price_if (toward a) lent).1 (record { each = sym two; small = All-cons (λ w. w ≤ 1000) a ((1000 - a) ∷ []) small (All-cons (λ w. w ≤ 1000) (1000 - a) [] (omega arith) (All-nil (λ w. w ≤ 1000))); some = omega arith }, rich, inl (omega arith)) in
+        (rw e fits, prices_taken rich wss cs (priced t d ws) two (omega (arith, row_more d ws)) (All-tail (Toward t) ws wss h) r)
 
     run_prices : (wss : List (List ℕ)) (cs : List Call) (d : Docket) → AllTaken d (to_price wss ++ cs) → ran t d (to_price wss ++ cs) ≡ ran t (fold (priced t) d wss) cs
     run_prices [] cs d h = refl

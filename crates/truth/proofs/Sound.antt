@@ -2,7 +2,7 @@
 use Rattle.std.proofs.Common.{◌≡◌, ℕ, ◌≤◌, Bool, true, false, List, [], ◌∷◌, ◌++◌, map, length, get_or, ℤ, ◌≤ℤ◌, ◌<ℤ◌, Some, None, fold, All, sum, Option, sym, refl, subst, arith}
 use borrow.Author.Differences.{ints}
 use lib.Signed.{lt_z, clash_ℤ}
-use Rattle.std.proofs.lemmas.List.Elements.{All-get_or, All-from_get_or, All-weaker}
+use Rattle.std.proofs.lemmas.List.Elements.{All-nil, All-cons, All-head, All-get_or, All-from_get_or, All-weaker}
 use Rattle.std.proofs.lemmas.List.{length-append}
 use Rattle.std.proofs.lemmas.Bool.{cond_both, false≢true}
 use Rattle.mdp.specs.Table.{Table, Facts}
@@ -25,7 +25,7 @@ use Rattle.truth.proofs.Mixing.{backed_more, backed_sum, backed_parts, backed_mi
 
 horizon_some : (t : Table) (os : List Objective) → All (Accepted t) os → 1 ≤ length os → 1 ≤ horizon os
 horizon_some t [] h l = l
-horizon_some t (o ∷ os) h l = omega (arith, h.0.some)
+horizon_some t (o ∷ os) h l = omega (arith, (All-head (Accepted t) o os h).some)
 
 weighed_some : (ws : List ℕ) → 1 ≤ sum ws → 1 ≤ length ws
 weighed_some [] l = l
@@ -140,8 +140,17 @@ module _ (t : Table) where
         settle_keeps t lent d r Sound (orderly_effect t d clear refl o, tt) (λ e ws q s. sound_priced e ws lent q s) (λ e ss q s. sound_mixed e ss q s)
 
     -- ---- what a call took tells
+    abbrev MissTells : Docket → List ℕ → Type 0
+    MissTells d ws = AllMiss t d.objectives ws → IsRefuted d.verdict
+
+    abbrev ClearTells : Docket → List ℕ → Type 0
+    ClearTells d ss = AllClear t d ss → IsAchieved d.verdict
+
     abbrev Tells : Docket → List (List ℕ) → List (List ℕ) → Type 0
-    Tells d wss sss = All (λ ws. AllMiss t d.objectives ws → IsRefuted d.verdict) wss × All (λ ss. AllClear t d ss → IsAchieved d.verdict) sss
+    Tells d wss sss = All (MissTells d) wss × All (ClearTells d) sss
+
+    no_tells : (d : Docket) → Tells d [] []
+    no_tells d = (All-nil (MissTells d), All-nil (ClearTells d))
 
     -- weights at which no pricing was below are none at which every plan misses
     not_missed : (os : List Objective) (wss : List (List ℕ)) (P : Type 0) → 1 ≤ horizon os → All (NotBelow t os) wss → All (λ ws. AllMiss t os ws → P) wss
@@ -155,17 +164,23 @@ module _ (t : Table) where
 
     effect_tells : (d : Docket) (c : Call) → refusal t d c ≡ None → Sound d → Tells (effect t d c) (prices t d c) (mixes t d c)
     unfolding priced mixed
-    effect_tells d (price ws lent) r s = (((λ m. price_shows d ws lent r s m), tt), tt)
-    effect_tells d (mix ss) r s = (tt, ((λ c. mix_shows d ss r s c), tt))
-    effect_tells d (retarget ts) r s = (tt, tt)
-    effect_tells d clear r s = (tt, tt)
+    effect_tells d (price ws lent) r s =
+        let e = effect t d (price ws lent) in
+        (All-cons (MissTells e) ws [] (λ m. price_shows d ws lent r s m) (All-nil (MissTells e)), All-nil (ClearTells e))
+    effect_tells d (mix ss) r s =
+        let e = effect t d (mix ss) in
+        (All-nil (MissTells e), All-cons (ClearTells e) ss [] (λ c. mix_shows d ss r s c) (All-nil (ClearTells e)))
+    effect_tells d (retarget ts) r s = no_tells (effect t d (retarget ts))
+    effect_tells d clear r s = no_tells (effect t d clear)
     effect_tells d (settle lent) r s =
         let e = settle_priced t d in
         let two = (((taken_exactly t d).settle_if lent).0 r).1 in
         let some = horizon_some t d.objectives s.0.posable.each (omega arith) in
+        let Then : List (List ℕ) → List ℕ → Type 0 = λ sss ss. AllClear t (settled t d) ss → IsAchieved (fold mixed e sss).verdict in
         let same : (settled t d).objectives ≡ d.objectives = settle_keeps t lent d r (λ e. e.objectives ≡ d.objectives) refl (λ f ws q p. p) (λ f ss q p. p) in (
           subst (λ os. All (λ ws. AllMiss t os ws → IsRefuted (settled t d).verdict) (settle_prices t d)) (sym same) (settle_tells d (settled t d).verdict some (settle_verdict t d)),
-          mixes_cases e (λ sss. All (λ ss. AllClear t (settled t d) ss → IsAchieved (fold mixed e sss).verdict) sss) (λ o. tt) (λ o none. tt) (λ o ss f. ((λ c. (ss, achieved e ss o f)), tt)),
+          mixes_cases e (λ sss. All (Then sss) sss) (λ o. All-nil (Then [])) (λ o none. All-nil (Then []))
+              (λ o ss f. All-cons (Then (ss ∷ [])) ss [] (λ c. (ss, achieved e ss o f)) (All-nil (Then (ss ∷ [])))),
         )
 
     after_tells : (d : Docket) (c : Call) → Sound d → Tells (after t d c) (priced_by t d c) (mixed_by t d c)
@@ -173,7 +188,7 @@ module _ (t : Table) where
       where
         by : (o : Option Fault) → refusal t d c ≡ o → Tells (if_taken o (effect t d c) d) (if_taken o (prices t d c) []) (if_taken o (mixes t d c) [])
         by None r = effect_tells d c r s
-        by (Some f) r = (tt, tt)
+        by (Some f) r = no_tells d
 
     shows : (d : Docket) → Sound d → ShowsTrue t d
     shows d (o, j) = record {

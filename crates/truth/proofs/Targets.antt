@@ -2,6 +2,7 @@
 use Rattle.std.proofs.Common.{◌≡◌, ℕ, zero, suc, ◌-◌, max, cond, ltb, List, [], ◌∷◌, map, length, get_or, ℤ, pos, All, sym, refl, ap, ◌∙◌, arith}
 use lib.ListN.{length-map, get_or-map}
 use Rattle.std.specs.List.{range_with_len}
+use Rattle.std.proofs.lemmas.List.Elements.{All-nil, All-cons, All-head, All-tail}
 use Rattle.mdp.specs.Table.{Table}
 use Rattle.plans.specs.declared.Objective.{Objective}
 use Rattle.plans.specs.declared.Row.{Row}
@@ -30,11 +31,13 @@ targets_aimed (z ∷ ts) [] e = absurd (omega arith)
 targets_aimed (z ∷ ts) (o ∷ os) e = ap (λ zs. z ∷ zs) (targets_aimed ts os (omega arith))
 
 pub accepted_aimed : (t : Table) (ts : List ℤ) (os : List Objective) → length ts ≡ length os → All Small ts → All (Accepted t) os → All (Accepted t) (each_by (aimed ts) os)
-accepted_aimed t ts [] e s h = tt
+accepted_aimed t ts [] e s h = All-nil (Accepted t)
 accepted_aimed t [] (o ∷ os) e s h = absurd (omega arith)
 accepted_aimed t (z ∷ ts) (o ∷ os) e s h =
-    let a = h.0 in
-    (record { there = a.there; some = a.some; short = a.short; low = s.0.0; high = s.0.1 }, accepted_aimed t ts os (omega arith) s.1 h.1)
+    let a = All-head (Accepted t) o os h in
+    let small = All-head Small z ts s in
+    All-cons (Accepted t) (aimed (z ∷ ts) 0 o) (each_by (aimed ts) os) (record { there = a.there; some = a.some; short = a.short; low = small.0; high = small.1 })
+    (accepted_aimed t ts os (omega arith) (All-tail Small z ts s) (All-tail (Accepted t) o os h))
 
 -- ---- a sweep is one of objectives without targets
 abbrev bare : Objective → Objective
