@@ -3,11 +3,11 @@ use Rattle.std.proofs.Common.{◌≡◌, ℕ, List, [], ◌∷◌, ◌++◌, dec
 use Rattle.std.specs.List.{flat_map}
 use Rattle.std.proofs.lemmas.List.{append-nil, take_all}
 use Rattle.text.specs.declared.Text.{Text}
-use Rattle.text.specs.Texts.{text_of, then}
+use Rattle.text.specs.Texts.{text_of, followed_by}
 use Rattle.text.proofs.Then.{then_then}
 use Rattle.assessment.specs.Listings.{spaced}
 
-pub then_none : (t : Text) → then (text_of t) [] ≡ text_of t
+pub then_none : (t : Text) → followed_by (text_of t) [] ≡ text_of t
 then_none t =
     let w = t.within in
     let l = length-take t.len t.bytes in
@@ -16,15 +16,15 @@ then_none t =
 -- one piece after the other
 abbrev pub put : List ℕ → List (List ℕ) → List ℕ
 put t [] = t
-put t (a ∷ bs) = put (then t a) bs
+put t (a ∷ bs) = put (followed_by t a) bs
 
 abbrev pub whole : List ℕ → List (List ℕ) → List ℕ
 whole a [] = a
 whole a (b ∷ bs) = a ++ whole b bs
 
-pub put_whole : (t a : List ℕ) (bs : List (List ℕ)) → put (then t a) bs ≡ then t (whole a bs)
+pub put_whole : (t a : List ℕ) (bs : List (List ℕ)) → put (followed_by t a) bs ≡ followed_by t (whole a bs)
 put_whole t a [] = refl
-put_whole t a (b ∷ bs) = put_whole (then t a) b bs ∙ then_then t a (whole b bs)
+put_whole t a (b ∷ bs) = put_whole (followed_by t a) b bs ∙ then_then t a (whole b bs)
 
 -- a number behind a space
 abbrev pub behind : ℕ → List ℕ

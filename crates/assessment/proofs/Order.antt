@@ -12,7 +12,7 @@ use Rattle.truth.specs.Calls.{settle, after}
 use Rattle.truth.specs.Claims.{ShowsTrue}
 use Rattle.truth.proofs.Sound.{truth_drafted}
 use Rattle.docket.specs.Settling.{settled_rows}
-use Rattle.assessment.specs.declared.fault.LayerFault.TheVariants.{File}
+use Rattle.assessment.specs.declared.faults.LayerFault.TheVariants.{File}
 use Rattle.assessment.specs.Questions.{objective_size, objective_at, asked}
 use Rattle.assessment.specs.Faults.{Told, told_at, unless}
 use Rattle.assessment.specs.Listings.{listing}

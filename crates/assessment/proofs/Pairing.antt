@@ -9,9 +9,9 @@ use Rattle.truth.specs.Calls.{settle, draft_refusal, added, drafted, refusal, if
 use Rattle.truth.proofs.Drafting.{drafted_posable}
 use Rattle.truth.proofs.Rows.{orderly_none}
 use Rattle.truth.proofs.Taken.{after_taken}
-use Rattle.text.specs.Texts.{then}
+use Rattle.text.specs.Texts.{followed_by}
 use Rattle.text.proofs.Then.{then_fits}
-use Rattle.assessment.specs.declared.fault.QuestionFault.{QuestionFault}
+use Rattle.assessment.specs.declared.faults.QuestionFault.{QuestionFault}
 use Rattle.assessment.specs.Faults.{Told, told_fault, told, unless}
 use Rattle.assessment.specs.Listings.{lines_of, listing}
 use Rattle.assessment.specs.Assess.{from, if_none}
@@ -70,10 +70,10 @@ module _ (t : Table) (o p : Objective) (lent : ℕ) where
   -- the lines fit
   pub pair_lines : Facts t → refusal t (pair_docket t o p) (settle lent) ≡ None → (v : Verdict) (rs : List Priced) →
       v ≡ (settled t (pair_docket t o p)).verdict → rs ≡ (after t (pair_docket t o p) (settle lent)).table →
-      then [] (lines_of v rs) ≡ listing (after t (pair_docket t o p) (settle lent))
+      followed_by [] (lines_of v rs) ≡ listing (after t (pair_docket t o p) (settle lent))
   pair_lines facts taken v rs ev er =
       let d = pair_docket t o p in
       let is = after_taken t d (settle lent) taken in
       let orderly = orderly_none t (drafted t.columns (o ∷ p ∷ [])) (drafted_posable t (o ∷ p ∷ [])) in
       let all : lines_of v rs ≡ listing (settled t d) = ap (λ v. lines_of v rs) ev ∙ ap (lines_of (settled t d).verdict) (er ∙ ap (λ (e : Docket). e.table) is) in
-      ap (then []) all ∙ then_fits [] (listing (settled t d)) (listing_short t facts d orderly lent taken) ∙ ap listing (sym is)
+      ap (followed_by []) all ∙ then_fits [] (listing (settled t d)) (listing_short t facts d orderly lent taken) ∙ ap listing (sym is)

@@ -5,7 +5,7 @@ use Rattle.file_check.specs.Accepts.{read_table}
 use Rattle.truth.specs.Dockets.{Docket, posed}
 use Rattle.truth.specs.Calls as calls
 use Rattle.truth.specs.Calls.{settle, draft_refusal, drafted, refusal, after}
-use Rattle.assessment.specs.declared.fault.LayerFault.TheVariants.{File}
+use Rattle.assessment.specs.declared.faults.LayerFault.TheVariants.{File}
 use Rattle.assessment.specs.Questions.{question_size, objective_size, objective_at, asked}
 use Rattle.assessment.specs.Faults.{Told, told_at}
 

@@ -3,11 +3,11 @@ use Rattle.std.specs.Prelude.{ℕ, List, [], ◌∷◌, ◌++◌, Some, None, Ok
 use Rattle.fault.specs.Texts.{fault_text}
 use Rattle.file_check.specs.Numbers.{cause_number}
 use Rattle.verdict.specs.Numbers.{draft_number, docket_number}
-use Rattle.assessment.specs.declared.fault.QuestionCause.{QuestionCause}
-use Rattle.assessment.specs.declared.fault.QuestionCause.TheVariants.{Length, Print}
-use Rattle.assessment.specs.declared.fault.LayerFault.{LayerFault}
-use Rattle.assessment.specs.declared.fault.LayerFault.TheVariants.{File, Draft, Docket, Question}
-use Rattle.assessment.specs.declared.fault.QuestionFault.{QuestionFault}
+use Rattle.assessment.specs.declared.faults.QuestionCause.{QuestionCause}
+use Rattle.assessment.specs.declared.faults.QuestionCause.TheVariants.{Length, Print}
+use Rattle.assessment.specs.declared.faults.LayerFault.{LayerFault}
+use Rattle.assessment.specs.declared.faults.LayerFault.TheVariants.{File, Draft, Docket, Question}
+use Rattle.assessment.specs.declared.faults.QuestionFault.{QuestionFault}
 
 abbrev pub question_number : QuestionCause → ℕ
 question_number Length = 16

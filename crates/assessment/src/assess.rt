@@ -13,7 +13,7 @@ ghost use Rattle.assessment.specs.Listings.{listing};
 ghost use Rattle.assessment.specs.Assess.{first_fault, from, question_docket, assess_fault, assessed, onto, if_none};
 ghost use Rattle.assessment.specs.Steps.{length_fault, print_fault, pair_docket, pair_fault};
 
-use crate::fault::{QuestionCause, QuestionFault};
+use crate::faults::{QuestionCause, QuestionFault};
 use crate::listing::{list, list_fault};
 use crate::question::read;
 use docket::draft::Draft;

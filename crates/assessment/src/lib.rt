@@ -4,7 +4,7 @@
 ghost use Rattle.assessment.specs.Questions.{QuestionLayout};
 
 pub mod assess;
-pub mod fault;
+pub mod faults;
 mod listing;
 mod question;
 

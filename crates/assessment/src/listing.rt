@@ -5,11 +5,11 @@ ghost use Rattle.fault.specs.Texts.{fault_text};
 ghost use Rattle.truth.specs.Dockets.{backed};
 ghost use Rattle.verdict.specs.Verdicts.{verdict_of};
 ghost use Rattle.holdings.specs.Views.{row_of};
-ghost use Rattle.text.specs.Texts.{text_of, then};
+ghost use Rattle.text.specs.Texts.{text_of, followed_by};
 ghost use Rattle.assessment.specs.Faults.{told_fault, fault_line};
 ghost use Rattle.assessment.specs.Listings.{spaced, line, share_line, lines_of};
 
-use crate::fault::{LayerFault, QuestionFault};
+use crate::faults::{LayerFault, QuestionFault};
 use fault::{Cause, Fault};
 use holdings::table::TableRow;
 use text::Text;
@@ -17,7 +17,7 @@ use verdict::verdict::Verdict;
 
 // A line of numbers, one or more, parted by single spaces.
 fn push_line(text: &mut Text, first: u16, rest: &[u16])
-    ensures { text_of text.new ≡ then (text_of text.old) (line (spaced (first ∷ rest.now))) }
+    ensures { text_of text.new ≡ followed_by (text_of text.old) (line (spaced (first ∷ rest.now))) }
 {
     text.push_decimal(u64::from(first));
     for number in rest {
@@ -29,7 +29,7 @@ fn push_line(text: &mut Text, first: u16, rest: &[u16])
 
 // A line for a row, if it has a share.
 fn push_share(text: &mut Text, share: u16, weights: &[u16])
-    ensures { text_of text.new ≡ (if nat_lt 0 share then then (text_of text.old) (line (spaced (share ∷ weights.now))) else text_of text.old) }
+    ensures { text_of text.new ≡ (if nat_lt 0 share then followed_by (text_of text.old) (line (spaced (share ∷ weights.now))) else text_of text.old) }
 {
     if share > 0 {
         push_line(text, share, weights);
@@ -37,7 +37,7 @@ fn push_share(text: &mut Text, share: u16, weights: &[u16])
 }
 
 fn push_shares(text: &mut Text, shares: &[u16], rows: &[TableRow])
-    ensures { text_of text.new ≡ then (text_of text.old) (flat_map share_line (backed shares.now (map row_of rows.now))) }
+    ensures { text_of text.new ≡ followed_by (text_of text.old) (flat_map share_line (backed shares.now (map row_of rows.now))) }
 {
     for (row, share) in shares.iter().enumerate() {
         if row < rows.len() {
@@ -47,7 +47,7 @@ fn push_shares(text: &mut Text, shares: &[u16], rows: &[TableRow])
 }
 
 fn push_weights(text: &mut Text, weights: &[u16])
-    ensures { text_of text.new ≡ then (text_of text.old) (line (spaced weights.now)) }
+    ensures { text_of text.new ≡ followed_by (text_of text.old) (line (spaced weights.now)) }
 {
     match weights {
         [] => text.push_str("\n"),
@@ -57,7 +57,7 @@ fn push_weights(text: &mut Text, weights: &[u16])
 
 // The verdict, and what it shows of the rows; bytes that find no room are left out.
 pub(crate) fn list(verdict: Verdict, rows: &[TableRow]) -> Text
-    ensures { text_of result ≡ then [] (lines_of (verdict_of verdict) (map row_of rows.now)) }
+    ensures { text_of result ≡ followed_by [] (lines_of (verdict_of verdict) (map row_of rows.now)) }
 {
     let mut text = Text::new();
     match verdict {
@@ -83,7 +83,7 @@ pub(crate) fn list(verdict: Verdict, rows: &[TableRow]) -> Text
 }
 
 fn push_fault<C: Cause + Drop>(text: &mut Text, fault: Fault<C>)
-    ensures { text_of text.new ≡ then (text_of text.old) (fault_text C.Cause.word (C.Cause.numbered fault.cause) fault.place) }
+    ensures { text_of text.new ≡ followed_by (text_of text.old) (fault_text C.Cause.word (C.Cause.numbered fault.cause) fault.place) }
 {
     text.push_str(C::layer());
     text.push_str(" ");

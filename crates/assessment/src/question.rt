@@ -1,9 +1,9 @@
 // The bytes of a question.
 ghost use Rattle.std.specs.Prelude.{◌≡◌, ◌<◌, ◌≤◌, eqb, length, drop, if◌then◌else◌, Ok, Err, MatchOption};
-ghost use Rattle.assessment.specs.declared.fault.QuestionCause.TheVariants.{Length};
+ghost use Rattle.assessment.specs.declared.faults.QuestionCause.TheVariants.{Length};
 ghost use Rattle.assessment.specs.Questions.{objective_size, question_size, objective_at, asked};
 
-use crate::fault::QuestionCause;
+use crate::faults::QuestionCause;
 use fault::Fault;
 use plans::Objective;
 

@@ -9,7 +9,7 @@ ghost use Rattle.docket.specs.Views.{view};
 use holdings::objectives::Objectives;
 use holdings::table::RowTable;
 use mdp::Model;
-use verdict::fault::DocketFault;
+use verdict::faults::DocketFault;
 use verdict::verdict::{Event, Shares, Verdict};
 
 mod pricing;

@@ -11,7 +11,7 @@ use crate::docket::Docket;
 use holdings::objectives::Objectives;
 use mdp::Model;
 use plans::Objective;
-use verdict::fault::DraftFault;
+use verdict::faults::DraftFault;
 
 #[derive(Drop)]
 pub struct Draft<M> {

@@ -9,7 +9,7 @@ use file_model::FileModel;
 use mdp::Model;
 use plans::{Objective, Row};
 use std::fs;
-use verdict::fault::DocketFault;
+use verdict::faults::DocketFault;
 use verdict::verdict::Verdict;
 
 const WORK: usize = 1024;

@@ -1,7 +1,7 @@
 -- Bytes after bytes, and bytes that find room. Assumes nothing.
 use Rattle.std.proofs.Common.{◌≡◌, ℕ, zero, suc, ◌≤◌, List, [], ◌∷◌, ◌++◌, length, take, refl, ap, ◌∙◌, append_assoc}
 use Rattle.std.proofs.lemmas.List.{take_all}
-use Rattle.text.specs.Texts.{max_text, then}
+use Rattle.text.specs.Texts.{max_text, followed_by}
 
 -- what lies past the front makes no difference to it
 take_front : (n : ℕ) (xs ys : List ℕ) → take n (take n xs ++ ys) ≡ take n (xs ++ ys)
@@ -9,12 +9,12 @@ take_front zero xs ys = refl
 take_front (suc n) [] ys = refl
 take_front (suc n) (x ∷ xs) ys = ap (λ l. x ∷ l) (take_front n xs ys)
 
-pub then_then : (xs a b : List ℕ) → then (then xs a) b ≡ then xs (a ++ b)
+pub then_then : (xs a b : List ℕ) → followed_by (followed_by xs a) b ≡ followed_by xs (a ++ b)
 then_then xs a b = take_front max_text (xs ++ a) b ∙ ap (take max_text) (append_assoc xs a b)
 
 -- the same, of texts that are known
-pub then_more : {t u : List ℕ} (xs a b : List ℕ) → t ≡ then xs a → u ≡ then t b → u ≡ then xs (a ++ b)
-then_more xs a b e f = f ∙ ap (λ l. then l b) e ∙ then_then xs a b
+pub then_more : {t u : List ℕ} (xs a b : List ℕ) → t ≡ followed_by xs a → u ≡ followed_by t b → u ≡ followed_by xs (a ++ b)
+then_more xs a b e f = f ∙ ap (λ l. followed_by l b) e ∙ then_then xs a b
 
-pub then_fits : (xs a : List ℕ) → length (xs ++ a) ≤ 64 → then xs a ≡ xs ++ a
+pub then_fits : (xs a : List ℕ) → length (xs ++ a) ≤ 64 → followed_by xs a ≡ xs ++ a
 then_fits xs a h = take_all max_text (xs ++ a) h

@@ -10,5 +10,5 @@ abbrev pub text_of : Text → List ℕ
 text_of t = take t.len t.bytes
 
 -- bytes put after a text; those that find no room are left out
-abbrev pub then : List ℕ → List ℕ → List ℕ
-then text more = take max_text (text ++ more)
+abbrev pub followed_by : List ℕ → List ℕ → List ℕ
+followed_by text more = take max_text (text ++ more)

@@ -1,7 +1,7 @@
 // Filling a text, and reading it.
 ghost use Rattle.std.specs.Prelude.{◌≡◌, [], ◌++◌, length, drop, if◌then◌else◌, Some, None, decimal, nat_le};
 ghost use Rattle.std.specs.Fmt.{signed_decimal};
-ghost use Rattle.text.specs.Texts.{text_of, then};
+ghost use Rattle.text.specs.Texts.{text_of, followed_by};
 
 use crate::{MAX_TEXT, Text};
 
@@ -17,7 +17,7 @@ impl Text {
 
     // Bytes that find no room are left out.
     fn push_bytes(&mut self, more: &[u8])
-        ensures { text_of self.new ≡ then (text_of self.old) more.now }
+        ensures { text_of self.new ≡ followed_by (text_of self.old) more.now }
     {
         let part = more.len().min(MAX_TEXT - self.len);
         let end = self.len + part;
@@ -26,13 +26,13 @@ impl Text {
     }
 
     pub fn push_str(&mut self, word: &str)
-        ensures { text_of self.new ≡ then (text_of self.old) word.now }
+        ensures { text_of self.new ≡ followed_by (text_of self.old) word.now }
     {
         self.push_bytes(word.as_bytes());
     }
 
     pub fn push_decimal(&mut self, number: u64)
-        ensures { text_of self.new ≡ then (text_of self.old) (decimal number) }
+        ensures { text_of self.new ≡ followed_by (text_of self.old) (decimal number) }
     {
         if number >= 10 {
             self.push_decimal(number / 10);
@@ -41,7 +41,7 @@ impl Text {
     }
 
     pub fn push_signed(&mut self, number: i64)
-        ensures { text_of self.new ≡ then (text_of self.old) (signed_decimal number) }
+        ensures { text_of self.new ≡ followed_by (text_of self.old) (signed_decimal number) }
     {
         if number < 0 {
             self.push_str("-");

@@ -2,7 +2,7 @@
 use Rattle.std.proofs.Common.{◌≡◌, ℕ, Some, None, Ok, Err, Option, Result, sym, refl, ap, ◌∙◌, arith}
 use Rattle.truth.specs.Calls.{Fault, if_taken}
 use Rattle.fault.specs.declared.Fault as fault
-use Rattle.verdict.specs.declared.fault.DocketCause.{DocketCause}
+use Rattle.verdict.specs.declared.faults.DocketCause.{DocketCause}
 use Rattle.verdict.specs.Numbers.{docket_number}
 use Rattle.verdict.specs.Answers.{answered, told_docket}
 

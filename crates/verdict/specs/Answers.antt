@@ -2,8 +2,8 @@
 use Rattle.std.specs.Prelude.{ℕ, List, Some, None, Ok, Err, Option, Result}
 use Rattle.fault.specs.declared.Fault.{Fault}
 use Rattle.truth.specs.Calls as calls
-use Rattle.verdict.specs.declared.fault.DraftCause.{DraftCause}
-use Rattle.verdict.specs.declared.fault.DocketCause.{DocketCause}
+use Rattle.verdict.specs.declared.faults.DraftCause.{DraftCause}
+use Rattle.verdict.specs.declared.faults.DocketCause.{DocketCause}
 use Rattle.verdict.specs.declared.few.Few.{Few}
 use Rattle.verdict.specs.Numbers.{draft_number, docket_number}
 use Rattle.verdict.specs.Views.{listed}

@@ -1,9 +1,9 @@
 -- The numbers of the causes. Assumes nothing.
 use Rattle.std.specs.Prelude.{ℕ}
-use Rattle.verdict.specs.declared.fault.DraftCause.{DraftCause}
-use Rattle.verdict.specs.declared.fault.DraftCause.TheVariants.{Objective, Full}
-use Rattle.verdict.specs.declared.fault.DocketCause.{DocketCause}
-use Rattle.verdict.specs.declared.fault.DocketCause.TheVariants.{Weights, Rows, Table, Shares, Targets, Settle}
+use Rattle.verdict.specs.declared.faults.DraftCause.{DraftCause}
+use Rattle.verdict.specs.declared.faults.DraftCause.TheVariants.{Objective, Full}
+use Rattle.verdict.specs.declared.faults.DocketCause.{DocketCause}
+use Rattle.verdict.specs.declared.faults.DocketCause.TheVariants.{Weights, Rows, Table, Shares, Targets, Settle}
 
 abbrev pub draft_number : DraftCause → ℕ
 draft_number Objective = 8

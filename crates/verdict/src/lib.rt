@@ -1,7 +1,7 @@
 // The verdict on a docket's targets, and why a call is refused.
 #![tactic(auto)]
 
-pub mod fault;
+pub mod faults;
 pub mod few;
 pub mod limits;
 pub mod verdict;

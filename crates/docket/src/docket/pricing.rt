@@ -13,7 +13,7 @@ use fault::Fault;
 use mdp::Model;
 use plans::Row;
 use sweep::sweep;
-use verdict::fault::{DocketCause, DocketFault};
+use verdict::faults::{DocketCause, DocketFault};
 use verdict::limits::MAX_OBJECTIVES;
 use verdict::verdict::{Event, Weights};
 

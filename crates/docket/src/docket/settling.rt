@@ -13,7 +13,7 @@ use crate::docket::Docket;
 use fault::Fault;
 use mdp::Model;
 use plans::Row;
-use verdict::fault::{DocketCause, DocketFault};
+use verdict::faults::{DocketCause, DocketFault};
 use verdict::verdict::{Event, Verdict};
 
 impl<M: Model> Docket<M> {

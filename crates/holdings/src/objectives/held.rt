@@ -12,7 +12,7 @@ use crate::objectives::Objectives;
 use crate::sums::{get_or_zero, scaled, total};
 use fault::Fault;
 use plans::Objective;
-use verdict::fault::{DocketCause, DocketFault, DraftCause, DraftFault};
+use verdict::faults::{DocketCause, DocketFault, DraftCause, DraftFault};
 use verdict::limits::{MAX_BOUND, MAX_OBJECTIVES, MAX_TARGET, MAX_WEIGHT};
 use verdict::verdict::Weights;
 

@@ -10,7 +10,7 @@ use crate::objectives::Objectives;
 use crate::sums::{scaled, total};
 use crate::table::{RowTable, TableRow};
 use fault::Fault;
-use verdict::fault::{DocketCause, DocketFault};
+use verdict::faults::{DocketCause, DocketFault};
 use verdict::limits::{MAX_OBJECTIVES, MAX_ROWS, MAX_SHARES};
 use verdict::verdict::Weights;
 

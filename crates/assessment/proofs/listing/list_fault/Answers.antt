@@ -3,17 +3,17 @@ use Rattle.fault.specs.Texts.{fault_text}
 use Rattle.file_check.specs.declared.fault.FileCause.{FileCause}
 use Rattle.file_check.specs.declared.fault.FileCause.TheVariants.{Size, Header, Pair, Field, Sum}
 use Rattle.file_check.specs.Numbers.{cause_number}
-use Rattle.verdict.specs.declared.fault.DraftCause.{DraftCause}
-use Rattle.verdict.specs.declared.fault.DraftCause.TheVariants.{Objective, Full}
-use Rattle.verdict.specs.declared.fault.DocketCause.{DocketCause}
-use Rattle.verdict.specs.declared.fault.DocketCause.TheVariants.{Weights, Rows, Table, Shares, Targets, Settle}
+use Rattle.verdict.specs.declared.faults.DraftCause.{DraftCause}
+use Rattle.verdict.specs.declared.faults.DraftCause.TheVariants.{Objective, Full}
+use Rattle.verdict.specs.declared.faults.DocketCause.{DocketCause}
+use Rattle.verdict.specs.declared.faults.DocketCause.TheVariants.{Weights, Rows, Table, Shares, Targets, Settle}
 use Rattle.verdict.specs.Numbers.{draft_number, docket_number}
-use Rattle.text.specs.Texts.{text_of, then}
+use Rattle.text.specs.Texts.{text_of, followed_by}
 use Rattle.text.proofs.Lengths.{length_decimal_64, length_decimal_16}
 use Rattle.text.proofs.Then.{then_fits}
-use Rattle.assessment.specs.declared.fault.QuestionCause.{QuestionCause}
-use Rattle.assessment.specs.declared.fault.QuestionCause.TheVariants.{Length, Print}
-use Rattle.assessment.specs.declared.fault.LayerFault.{LayerFault}
+use Rattle.assessment.specs.declared.faults.QuestionCause.{QuestionCause}
+use Rattle.assessment.specs.declared.faults.QuestionCause.TheVariants.{Length, Print}
+use Rattle.assessment.specs.declared.faults.LayerFault.{LayerFault}
 use Rattle.assessment.specs.Faults.{Told, question_number, told_at, told_fault, fault_line}
 use Rattle.assessment.proofs.Lines.{put_whole}
 use Rattle.assessment.proofs.listing.list_fault.Goals as goal
@@ -60,8 +60,8 @@ line_fits at f o s =
     let l = s.layer in
     simp length-append (omega arith)
 
-line_is : (t0 t1 t2 t3 t4 t5 : List ℕ) (at : ℕ) (f : Told) → at < 2 ^ 64 → Short at f → t0 ≡ [] → t1 ≡ then t0 (codes "fault ") → t2 ≡ then t1 (decimal at) →
-    t3 ≡ then t2 (32 ∷ []) → t4 ≡ then t3 (tail_of f) → t5 ≡ then t4 (10 ∷ []) → t5 ≡ fault_line f
+line_is : (t0 t1 t2 t3 t4 t5 : List ℕ) (at : ℕ) (f : Told) → at < 2 ^ 64 → Short at f → t0 ≡ [] → t1 ≡ followed_by t0 (codes "fault ") → t2 ≡ followed_by t1 (decimal at) →
+    t3 ≡ followed_by t2 (32 ∷ []) → t4 ≡ followed_by t3 (tail_of f) → t5 ≡ followed_by t4 (10 ∷ []) → t5 ≡ fault_line f
 line_is t0 t1 t2 t3 t4 t5 at f o s e0 e1 e2 e3 e4 e5 =
     let p = put_whole [] (codes "fault ") (decimal f.offset ∷ (32 ∷ []) ∷ tail_of f ∷ (10 ∷ []) ∷ []) in
     let fits = then_fits [] (fault_line f) (line_fits at f o s) in
@@ -74,7 +74,7 @@ returns c =
     let t4 = text_of c.match-fault.text in
     let at = c.args.fault.offset in
     let f = told_fault c.args.fault in
-    let so : LayerFault → Type 0 = λ l. Short at (told_at at l) × (t4 ≡ then t3 (tail_of (told_at at l))) in
+    let so : LayerFault → Type 0 = λ l. Short at (told_at at l) × (t4 ≡ followed_by t3 (tail_of (told_at at l))) in
     let way : so c.args.fault.fault =
     elim c.match-fault.branch [
       | in-File w ↦

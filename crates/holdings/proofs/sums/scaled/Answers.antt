@@ -2,8 +2,8 @@ use Rattle.std.proofs.Common.{◌^◌, ◌≤◌, nat_abs, sym, subst}
 use Rattle.holdings.proofs.Products.{product_near, fits, back}
 use Rattle.holdings.proofs.sums.scaled.Goals as goal
 
-pub overflow-mul-result : goal.overflow-mul-result
-overflow-mul-result c = fits c.from.result c.from-2.result c.args.times c.args.amount c.from.ensures c.from-2.ensures c.ranges.times.fits c.ranges.amount
+pub overflow_mul-result : goal.overflow_mul-result
+overflow_mul-result c = fits c.from.result c.from-2.result c.args.times c.args.amount c.from.ensures c.from-2.ensures c.ranges.times.fits c.ranges.amount
 
 pub returns : goal.returns
 returns c =

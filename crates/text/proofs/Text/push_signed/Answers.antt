@@ -3,7 +3,7 @@ use lib.Signed.{lt_z}
 use Rattle.std.specs.Fmt.{signed_decimal}
 use Rattle.std.proofs.lemmas.Int.{to_z-of_z}
 use Rattle.std.proofs.lemmas.Bool.{ltb-true, true≢false}
-use Rattle.text.specs.Texts.{text_of, then}
+use Rattle.text.specs.Texts.{text_of, followed_by}
 use Rattle.text.proofs.Then.{then_more}
 use Rattle.text.proofs.Text.push_signed.Goals as goal
 use Rattle.text.proofs.Text.push_signed.Goals.{then-number-lt0, else-number-lt0}
@@ -20,11 +20,11 @@ pub returns : goal.returns
 returns c =
     let text = text_of c.args.self.now in
     let number = to_z w64 (of_z w64 c.args.number) in
-    let pushed = c.push-decimal.ensures ∙ ap (λ n. then (text_of c.if-number-lt0.self) (decimal n)) c.unsigned-abs.ensures.value in
+    let pushed = c.push-decimal.ensures ∙ ap (λ n. followed_by (text_of c.if-number-lt0.self) (decimal n)) c.unsigned-abs.ensures.value in
     elim c.if-number-lt0.branch [
       | then-number-lt0 w ↦
-          then_more text (45 ∷ []) (decimal (nat_abs number)) (ap text_of w.self-is ∙ w.push-str.ensures) pushed ∙ ap (then text) (below_zero number w.if-number-lt0.true)
+          then_more text (45 ∷ []) (decimal (nat_abs number)) (ap text_of w.self-is ∙ w.push-str.ensures) pushed ∙ ap (followed_by text) (below_zero number w.if-number-lt0.true)
       | else-number-lt0 w ↦
-          pushed ∙ ap (λ s. then (text_of s) (decimal (nat_abs number))) w.self-is ∙ ap (then text) (from_zero number w.if-number-lt0.false)
+          pushed ∙ ap (λ s. followed_by (text_of s) (decimal (nat_abs number))) w.self-is ∙ ap (followed_by text) (from_zero number w.if-number-lt0.false)
     ]
-    ∙ ap (λ z. then text (signed_decimal z)) (to_z-of_z w64 c.args.number c.ranges.number)
+    ∙ ap (λ z. followed_by text (signed_decimal z)) (to_z-of_z w64 c.args.number c.ranges.number)

@@ -13,7 +13,7 @@ returns c =
     let ws = c.args.weights.now in
     let n = length_held s in
     let few : length ws ≤ 4 = omega (arith, s.within) in
-    let e = c.count-weights-small.ensures in
+    let e = c.count_weights-small.ensures in
     let f = c.total.ensures in
     let none : weights_refusal (length (held s)) ws ≡ None = grind (arith, nat_tests) in
     ap Ok (c.of.ensures ∙ take_all 4 ws few) ∙ sym (ap (λ o. answered o ws) none)

@@ -11,14 +11,14 @@ pub loop-i-preserved : goal.loop-i-preserved
 loop-i-preserved c =
     let i = c.loop-i.i in
     let ts = c.args.targets.now in
-    let e : small_target (get_or ts i (pos 0)) ≡ true = passed (get_or ts i (pos 0)) true (search rules) c.if-not-is-target.ensures in
+    let e : small_target (get_or ts i (pos 0)) ≡ true = passed (get_or ts i (pos 0)) true (search rules) c.if-not-is_target.ensures in
     omega (arith, c.loop-i.invariant, prefix_len-drop_yes small_target ts i (pos 0) c.loop-i-test.true e)
 
-pub returns-then-not-is-target : goal.returns-then-not-is-target
-returns-then-not-is-target c =
+pub returns-then-not-is_target : goal.returns-then-not-is_target
+returns-then-not-is_target c =
     let i = c.loop-i.i in
     let ts = c.args.targets.now in
-    let e : small_target (get_or ts i (pos 0)) ≡ false = passed (get_or ts i (pos 0)) false (search rules) c.if-not-is-target.ensures in
+    let e : small_target (get_or ts i (pos 0)) ≡ false = passed (get_or ts i (pos 0)) false (search rules) c.if-not-is_target.ensures in
     omega (arith, c.loop-i.invariant, prefix_len-drop_no small_target ts i (pos 0) c.loop-i-test.true e)
 
 pub returns : goal.returns

@@ -9,8 +9,8 @@ loop-i-preserved c =
     let ws = c.args.weights.now in
     omega (arith, c.loop-i.invariant, prefix_len-drop_yes (λ w. leb w 1000) ws i 0 c.loop-i-test.true (le-leb (get_or ws i 0) 1000 (omega arith)))
 
-pub returns-then-weights-i-gt-MAX-WEIGHT : goal.returns-then-weights-i-gt-MAX-WEIGHT
-returns-then-weights-i-gt-MAX-WEIGHT c =
+pub returns-then-weights-i-gt-MAX_WEIGHT : goal.returns-then-weights-i-gt-MAX_WEIGHT
+returns-then-weights-i-gt-MAX_WEIGHT c =
     let i = c.loop-i.i in
     let ws = c.args.weights.now in
     omega (arith, c.loop-i.invariant, prefix_len-drop_no (λ w. leb w 1000) ws i 0 c.loop-i-test.true (lt-leb (get_or ws i 0) 1000 (omega arith)))

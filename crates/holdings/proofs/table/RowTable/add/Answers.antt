@@ -6,15 +6,15 @@ use Rattle.holdings.specs.Views.{row_of, table_of}
 use Rattle.holdings.proofs.Rows.{length_table_of}
 use Rattle.holdings.proofs.table.RowTable.add.Goals as goal
 
-pub returns-then-row-lt-MAX-ROWS : goal.returns-then-row-lt-MAX-ROWS
-returns-then-row-lt-MAX-ROWS c =
+pub returns-then-row-lt-MAX_ROWS : goal.returns-then-row-lt-MAX_ROWS
+returns-then-row-lt-MAX_ROWS c =
     let t = c.args.self.now in
     let k = c.args.row in
     let r : TableRow = record { weights = c.args.weights; point = c.args.point } in
     let rs = table_of t in
     let n = length_table_of t in
     let e = c.if-row-self.true in
-    let l = c.if-row-lt-MAX-ROWS.true in
+    let l = c.if-row-lt-MAX_ROWS.true in
     let h : k < length t.rows = omega (arith, t.whole) in
     let b : (eqb k (length rs) && ltb k 16) ≡ true = grind (arith, nat_tests) in
     ap (map row_of) (take_more_set t.rows k r h)

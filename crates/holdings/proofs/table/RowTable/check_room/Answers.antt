@@ -20,16 +20,16 @@ module _ (rs : List Priced) (ws : List ℕ) (few : length rs ≤ 16) where
 few_rows : (t : RowTable) → length (table_of t) ≤ 16
 few_rows t = omega (arith, length_table_of t, t.within)
 
-pub returns-then-row-eq-MAX-ROWS : goal.returns-then-row-eq-MAX-ROWS
-returns-then-row-eq-MAX-ROWS c =
+pub returns-then-row-eq-MAX_ROWS : goal.returns-then-row-eq-MAX_ROWS
+returns-then-row-eq-MAX_ROWS c =
     let t = c.args.self.now in
     let ws = listed c.args.weights.now in
     let rs = table_of t in
-    sym (ap (λ v. answered v (number ws rs)) (full rs ws (few_rows t) (sym c.find-row.ensures ∙ c.if-row-eq-MAX-ROWS.true)))
+    sym (ap (λ v. answered v (number ws rs)) (full rs ws (few_rows t) (sym c.find-row.ensures ∙ c.if-row-eq-MAX_ROWS.true)))
 
 pub returns : goal.returns
 returns c =
     let t = c.args.self.now in
     let ws = listed c.args.weights.now in
     let rs = table_of t in
-    ap Ok c.find-row.ensures ∙ sym (ap (λ v. answered v (number ws rs)) (free rs ws (few_rows t) (λ e. c.if-row-eq-MAX-ROWS.false (c.find-row.ensures ∙ e))))
+    ap Ok c.find-row.ensures ∙ sym (ap (λ v. answered v (number ws rs)) (free rs ws (few_rows t) (λ e. c.if-row-eq-MAX_ROWS.false (c.find-row.ensures ∙ e))))

@@ -12,16 +12,16 @@ loop-row-preserved c =
     let t = c.args.self.now in
     let k = c.loop-row.row in
     let p : Priced → Bool = λ r. not (same r.weights ws) in
-    let e : p (get_or (table_of t) k no_priced) ≡ true = ap p (getD_table_of t k c.index-self-row.result c.loop-row-test.true) ∙ ap not (sym c.if-has-weights.ensures) in
+    let e : p (get_or (table_of t) k no_priced) ≡ true = ap p (getD_table_of t k c.index-self-row.result c.loop-row-test.true) ∙ ap not (sym c.if-has_weights.ensures) in
     omega (arith, c.loop-row.invariant, prefix_len-drop_yes p (table_of t) k no_priced (omega (arith, length_table_of t)) e)
 
-pub returns-then-has-weights : goal.returns-then-has-weights
-returns-then-has-weights c =
+pub returns-then-has_weights : goal.returns-then-has_weights
+returns-then-has_weights c =
     let ws = listed c.args.weights.now in
     let t = c.args.self.now in
     let k = c.loop-row.row in
     let p : Priced → Bool = λ r. not (same r.weights ws) in
-    let e : p (get_or (table_of t) k no_priced) ≡ false = ap p (getD_table_of t k c.index-self-row.result c.loop-row-test.true) ∙ ap not (sym c.if-has-weights.ensures) in
+    let e : p (get_or (table_of t) k no_priced) ≡ false = ap p (getD_table_of t k c.index-self-row.result c.loop-row-test.true) ∙ ap not (sym c.if-has_weights.ensures) in
     omega (arith, c.loop-row.invariant, prefix_len-drop_no p (table_of t) k no_priced (omega (arith, length_table_of t)) e)
 
 pub returns : goal.returns

@@ -26,7 +26,7 @@ pub loop-first-preserved : goal.loop-first-preserved
 loop-first-preserved c =
     let t = c.args.self.now in
     let p = suffice (held c.args.objectives.now) (table_of t) in
-    c.loop-first.invariant ∙ gathered_next p (partner_shares t.used) c.loop-first.first t.used c.loop-first-test.true c.in-default.ensures
+    c.loop-first.invariant ∙ gathered_next p (partner_shares t.used) c.loop-first.first t.used c.loop-first-test.true c.in_default.ensures
 
 pub returns : goal.returns
 returns c =

@@ -24,7 +24,7 @@ pub loop-second-preserved : goal.loop-second-preserved
 loop-second-preserved c =
     let t = c.args.self.now in
     let p = suffice (held c.args.objectives.now) (table_of t) in
-    c.loop-second.invariant ∙ gathered_next p (λ s. shares_from t.used c.args.first s 0) c.loop-second.second t.used c.loop-second-test.true c.in-default.ensures
+    c.loop-second.invariant ∙ gathered_next p (λ s. shares_from t.used c.args.first s 0) c.loop-second.second t.used c.loop-second-test.true c.in_default.ensures
 
 pub returns : goal.returns
 returns c =

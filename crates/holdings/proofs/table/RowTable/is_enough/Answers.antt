@@ -7,31 +7,31 @@ use Rattle.holdings.proofs.table.RowTable.is_enough.Goals as goal
 
 pub loop-i-preserved : goal.loop-i-preserved
 loop-i-preserved c =
-    let os = c.as-slice-objectives.result.now in
+    let os = c.as_slice-objectives.result.now in
     let ss = c.args.shares.now in
     let rs = table_of c.args.self.now in
     let i = c.loop-i.i in
     let z = (get_or os i no_objective).target in
     let f : SFits w64 z = search rules in
     let t : met ss rs i (get_or os i no_objective) ≡ true =
-    tested c.args.together (sum ss) z (part_sum ss rs i) c.share-sum.result c.scaled.result false c.requires.added f (record { sfits = c.share-sum.type-inv }) (record { sfits = c.scaled.type-inv }) c.share-sum.ensures c.scaled.ensures.is c.if-share-sum-scaled.false in
+    tested c.args.together (sum ss) z (part_sum ss rs i) c.share_sum.result c.scaled.result false c.requires.added f (record { sfits = c.share_sum.type_inv }) (record { sfits = c.scaled.type_inv }) c.share_sum.ensures c.scaled.ensures.is c.if-share_sum-scaled.false in
     c.loop-i.invariant ∙ met_more ss rs os i true c.loop-i-test.true t
 
-pub returns-then-share-sum-scaled : goal.returns-then-share-sum-scaled
-returns-then-share-sum-scaled c =
-    let os = c.as-slice-objectives.result.now in
+pub returns-then-share_sum-scaled : goal.returns-then-share_sum-scaled
+returns-then-share_sum-scaled c =
+    let os = c.as_slice-objectives.result.now in
     let ss = c.args.shares.now in
     let rs = table_of c.args.self.now in
     let i = c.loop-i.i in
     let z = (get_or os i no_objective).target in
     let f : SFits w64 z = search rules in
     let t : met ss rs i (get_or os i no_objective) ≡ false =
-    tested c.args.together (sum ss) z (part_sum ss rs i) c.share-sum.result c.scaled.result true c.requires.added f (record { sfits = c.share-sum.type-inv }) (record { sfits = c.scaled.type-inv }) c.share-sum.ensures c.scaled.ensures.is c.if-share-sum-scaled.true in
-    sym (ap (λ xs. suffice xs rs ss) (sym c.as-slice-objectives.ensures) ∙ c.loop-i.invariant ∙ met_more ss rs os i false c.loop-i-test.true t)
+    tested c.args.together (sum ss) z (part_sum ss rs i) c.share_sum.result c.scaled.result true c.requires.added f (record { sfits = c.share_sum.type_inv }) (record { sfits = c.scaled.type_inv }) c.share_sum.ensures c.scaled.ensures.is c.if-share_sum-scaled.true in
+    sym (ap (λ xs. suffice xs rs ss) (sym c.as_slice-objectives.ensures) ∙ c.loop-i.invariant ∙ met_more ss rs os i false c.loop-i-test.true t)
 
 pub returns : goal.returns
 returns c =
-    let os = c.as-slice-objectives.result.now in
+    let os = c.as_slice-objectives.result.now in
     let ss = c.args.shares.now in
     let rs = table_of c.args.self.now in
-    sym (ap (λ xs. suffice xs rs ss) (sym c.as-slice-objectives.ensures) ∙ c.loop-i.invariant ∙ met_all ss rs os c.loop-i.i c.loop-i-test.false)
+    sym (ap (λ xs. suffice xs rs ss) (sym c.as_slice-objectives.ensures) ∙ c.loop-i.invariant ∙ met_all ss rs os c.loop-i.i c.loop-i-test.false)

@@ -8,7 +8,7 @@ use Rattle.holdings.proofs.table.RowTable.is_pair_enough.Goals as goal
 
 pub loop-i-preserved : goal.loop-i-preserved
 loop-i-preserved c =
-    let os = c.as-slice-objectives.result.now in
+    let os = c.as_slice-objectives.result.now in
     let n = c.args.self.now.used in
     let ss = paired n c.args.first c.args.second c.args.share in
     let rs = table_of c.args.self.now in
@@ -17,12 +17,12 @@ loop-i-preserved c =
     let f : SFits w64 z = search rules in
     let w = sym (sum_paired n c.args.first c.args.second c.args.share c.requires.rising c.requires.inside c.requires.small) in
     let t : met ss rs i (get_or os i no_objective) ≡ true =
-    tested 1000 (sum ss) z (part_sum ss rs i) c.pair-sum.result c.scaled.result false w f (record { sfits = c.pair-sum.type-inv }) (record { sfits = c.scaled.type-inv }) c.pair-sum.ensures c.scaled.ensures.is c.if-pair-sum-scaled.false in
+    tested 1000 (sum ss) z (part_sum ss rs i) c.pair_sum.result c.scaled.result false w f (record { sfits = c.pair_sum.type_inv }) (record { sfits = c.scaled.type_inv }) c.pair_sum.ensures c.scaled.ensures.is c.if-pair_sum-scaled.false in
     c.loop-i.invariant ∙ met_more ss rs os i true c.loop-i-test.true t
 
-pub returns-then-pair-sum-scaled : goal.returns-then-pair-sum-scaled
-returns-then-pair-sum-scaled c =
-    let os = c.as-slice-objectives.result.now in
+pub returns-then-pair_sum-scaled : goal.returns-then-pair_sum-scaled
+returns-then-pair_sum-scaled c =
+    let os = c.as_slice-objectives.result.now in
     let n = c.args.self.now.used in
     let ss = paired n c.args.first c.args.second c.args.share in
     let rs = table_of c.args.self.now in
@@ -31,12 +31,12 @@ returns-then-pair-sum-scaled c =
     let f : SFits w64 z = search rules in
     let w = sym (sum_paired n c.args.first c.args.second c.args.share c.requires.rising c.requires.inside c.requires.small) in
     let t : met ss rs i (get_or os i no_objective) ≡ false =
-    tested 1000 (sum ss) z (part_sum ss rs i) c.pair-sum.result c.scaled.result true w f (record { sfits = c.pair-sum.type-inv }) (record { sfits = c.scaled.type-inv }) c.pair-sum.ensures c.scaled.ensures.is c.if-pair-sum-scaled.true in
-    sym (ap (λ xs. suffice xs rs ss) (sym c.as-slice-objectives.ensures) ∙ c.loop-i.invariant ∙ met_more ss rs os i false c.loop-i-test.true t)
+    tested 1000 (sum ss) z (part_sum ss rs i) c.pair_sum.result c.scaled.result true w f (record { sfits = c.pair_sum.type_inv }) (record { sfits = c.scaled.type_inv }) c.pair_sum.ensures c.scaled.ensures.is c.if-pair_sum-scaled.true in
+    sym (ap (λ xs. suffice xs rs ss) (sym c.as_slice-objectives.ensures) ∙ c.loop-i.invariant ∙ met_more ss rs os i false c.loop-i-test.true t)
 
 pub returns : goal.returns
 returns c =
-    let os = c.as-slice-objectives.result.now in
+    let os = c.as_slice-objectives.result.now in
     let ss = paired c.args.self.now.used c.args.first c.args.second c.args.share in
     let rs = table_of c.args.self.now in
-    sym (ap (λ xs. suffice xs rs ss) (sym c.as-slice-objectives.ensures) ∙ c.loop-i.invariant ∙ met_all ss rs os c.loop-i.i c.loop-i-test.false)
+    sym (ap (λ xs. suffice xs rs ss) (sym c.as_slice-objectives.ensures) ∙ c.loop-i.invariant ∙ met_all ss rs os c.loop-i.i c.loop-i-test.false)

@@ -31,8 +31,8 @@ loop-row-preserved c =
       subst (λ z. nat_abs z ≤ (k + 1) * 2 ^ 79) (sym e) (more_near _ c.scaled-sum.result k (2 ^ 79) c.loop-row.invariant.1 c.scaled-sum.ensures.near (omega arith)),
     )
 
-pub overflow-add-sum : goal.overflow-add-sum
-overflow-add-sum c = let l = few c in more_fits _ c.scaled-sum.result c.loop-row.row (2 ^ 79) c.loop-row.invariant.1 c.scaled-sum.ensures.near (omega arith)
+pub overflow_add-sum : goal.overflow_add-sum
+overflow_add-sum c = let l = few c in more_fits _ c.scaled-sum.result c.loop-row.row (2 ^ 79) c.loop-row.invariant.1 c.scaled-sum.ensures.near (omega arith)
 
 pub returns : goal.returns
 returns c =

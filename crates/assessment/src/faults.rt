@@ -1,11 +1,11 @@
 // Why a question is refused.
 ghost use Rattle.std.specs.Prelude.{◌≡◌, codes};
-ghost use Rattle.assessment.specs.declared.fault.LayerFault.TheVariants.{File, Draft, Docket, Question};
+ghost use Rattle.assessment.specs.declared.faults.LayerFault.TheVariants.{File, Draft, Docket, Question};
 ghost use Rattle.assessment.specs.Faults.{question_number};
 
 use fault::{Cause, Fault};
 use file_check::fault::FileFault;
-use verdict::fault::{DocketFault, DraftFault};
+use verdict::faults::{DocketFault, DraftFault};
 
 #[derive(Clone, Copy, PartialEq, Eq, Debug)]
 pub enum QuestionCause {
