@@ -17,8 +17,8 @@ returns t c =
     let number = c.args.number in
     elim c.if-number-ge10.branch [
       | then-number-ge10 w ↦
-          then_more text (decimal (number / 10)) (last_digit number) (ap text_of w.self-is ∙ w.push-decimal.ensures) c.push-bytes.ensures
+          then_more text (decimal (number / 10)) (last_digit number) (ap text_of w.self-is ∙ w.push_decimal.ensures) c.push_bytes.ensures
           ∙ ap (followed_by text) (sym (decimal_step number w.if-number-ge10.true (omega arith)))
       | else-number-ge10 w ↦
-          c.push-bytes.ensures ∙ ap (λ s. followed_by (text_of s) (last_digit number)) w.self-is ∙ ap (followed_by text) (only_digit number w.if-number-ge10.false)
+          c.push_bytes.ensures ∙ ap (λ s. followed_by (text_of s) (last_digit number)) w.self-is ∙ ap (followed_by text) (only_digit number w.if-number-ge10.false)
     ]

@@ -20,10 +20,10 @@ pub returns : goal.returns
 returns c =
     let text = text_of c.args.self.now in
     let number = to_z w64 (of_z w64 c.args.number) in
-    let pushed = c.push-decimal.ensures ∙ ap (λ n. followed_by (text_of c.if-number-lt0.self) (decimal n)) c.unsigned-abs.ensures.value in
+    let pushed = c.push_decimal.ensures ∙ ap (λ n. followed_by (text_of c.if-number-lt0.self) (decimal n)) c.unsigned_abs.ensures.value in
     elim c.if-number-lt0.branch [
       | then-number-lt0 w ↦
-          then_more text (45 ∷ []) (decimal (nat_abs number)) (ap text_of w.self-is ∙ w.push-str.ensures) pushed ∙ ap (followed_by text) (below_zero number w.if-number-lt0.true)
+          then_more text (45 ∷ []) (decimal (nat_abs number)) (ap text_of w.self-is ∙ w.push_str.ensures) pushed ∙ ap (followed_by text) (below_zero number w.if-number-lt0.true)
       | else-number-lt0 w ↦
           pushed ∙ ap (λ s. followed_by (text_of s) (decimal (nat_abs number))) w.self-is ∙ ap (followed_by text) (from_zero number w.if-number-lt0.false)
     ]
