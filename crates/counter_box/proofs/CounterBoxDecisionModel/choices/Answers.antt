@@ -1,6 +1,6 @@
 use Rattle.std.proofs.Common.{sym, arith}
 use Rattle.tables.proofs.CounterBox.{choices_open, choices_full, choices_past}
-use Rattle.counter_box.proofs.CounterBoxModel.choices.Goals as goal
+use Rattle.counter_box.proofs.CounterBoxDecisionModel.choices.Goals as goal
 
 pub returns-then-state-self : goal.returns-then-state-self
 returns-then-state-self c = sym (choices_open c.args.self.now.limit c.args.self.now.chance c.args.state c.if-state-self.true)
