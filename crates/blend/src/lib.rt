@@ -16,12 +16,12 @@ pub trait Blend {
 
     ghost more: { Self.Running → ℕ → ℤ → Self.Running };
 
-    ghost result: { Self.Running → ℕ → ℤ };
+    ghost outcome: { Self.Running → ℕ → ℤ };
 
     // what the running amounts come to
     ghost mean: { Mean };
 
-    ghost means: { (xs : List Weighed) (d : ℕ) → result (running more none xs) d ≡ mean xs d };
+    ghost means: { (xs : List Weighed) (d : ℕ) → outcome (running more none xs) d ≡ mean xs d };
 
     ghost lawful: { Lawful mean };
 
@@ -41,7 +41,7 @@ pub trait Blend {
 
     fn finish(running: Self::Running, divisor: u16) -> i64
         requires { MayFinish after running divisor }
-        ensures* { λ r. ⌜ r ≡ result running divisor ⌝ };
+        ensures { result ≡ outcome running divisor };
 }
 
 fn plus_weighted(sum: i64, weight: u16, amount: i64) -> i64
@@ -69,7 +69,7 @@ impl Blend for Up {
 
     ghost more = { more_by };
 
-    ghost result = { ceiling_div };
+    ghost outcome = { ceiling_div };
 
     ghost mean = { mean_up };
 
@@ -106,7 +106,7 @@ impl Blend for Down {
 
     ghost more = { more_by };
 
-    ghost result = { floor_div };
+    ghost outcome = { floor_div };
 
     ghost mean = { mean_down };
 

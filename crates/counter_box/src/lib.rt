@@ -7,7 +7,7 @@ ghost use Rattle.tables.specs.Whole.{whole_of};
 ghost use Rattle.tables.specs.CounterBox.{max_limit, max_chance, clamped, box_branch, open_state, full_state, branch_in, counter_box};
 ghost use Rattle.tables.proofs.CounterBox.{counter_box_facts};
 
-use mdp::{Model, WholeBranch};
+use mdp::{Model as DecisionModel, WholeBranch};
 
 pub const MAX_LIMIT: usize = 15;
 // in percent
@@ -80,7 +80,7 @@ fn full_branch(choice: usize, branch: usize) -> Option<WholeBranch>
     }
 }
 
-pub impl Model for CounterBox as CounterBoxModel {
+impl DecisionModel for CounterBox {
     ghost table = { λ m. counter_box m.limit m.chance };
 
     ghost facts = { λ m. counter_box_facts m.limit m.chance m.ranges.0 m.ranges.1 m.ranges.2 m.ranges.3 };

@@ -1,14 +1,15 @@
 -- The file of a table with its facts is accepted, and holds that table.
-use Rattle.std.proofs.Common.{◌≡◌, ℕ, zero, suc, ◌+◌, ◌*◌, ◌≤◌, true, false, cond, eqb, ltb, List, [], ◌∷◌, ◌++◌, length, get_or, ℤ, nat_abs, Ok, All, sym, refl, ap, ◌∙◌, subst, suc-mul, zero-add, zero-mul, arith, length-append, w16, SFits, to_z, of_z}
+use Rattle.std.proofs.Common.{◌≡◌, ℕ, zero, suc, ◌+◌, ◌*◌, ◌≤◌, true, false, eqb, ltb, List, [], ◌∷◌, ◌++◌, length, get_or, ℤ, nat_abs, Ok, All, sym, refl, ap, ◌∙◌, subst, suc-mul, zero-add, zero-mul, arith, length-append, w16, SFits, to_z, of_z}
 use Rattle.std.specs.List.{flat_map}
 use Rattle.std.proofs.lemmas.Int.{to_z-of_z, ints}
 use Rattle.std.proofs.lemmas.List.{append-nil, drop_all}
+use Rattle.std.proofs.lemmas.List.Elements.{All-head, All-tail}
 use Rattle.std.proofs.lemmas.Bool.{cond-true, cond-false, lt-ltb, le-ltb, le-leb, eq-eqb, and_from}
-use Rattle.mdp.specs.Limits.{max_states, max_divisor, max_columns, max_choices, max_branches, max_reward}
-use Rattle.mdp.specs.Table.{Branch, Choice, State, Table, total_weight, BranchFacts, ChoiceFacts, StateFacts, Facts}
+use Rattle.mdp.specs.Limits.{max_states, max_divisor, max_columns, max_choices, max_reward}
+use Rattle.mdp.specs.Table.{Branch, State, Table, total_weight, BranchFacts, ChoiceFacts, StateFacts, Facts}
 use Rattle.file_check.specs.declared.check.Header.{Header}
 use Rattle.file_check.specs.Layout.{two, reward_bytes, branch_bytes, choice_bytes, block, pairs_bytes, header_bytes, encode}
-use Rattle.file_check.specs.Check.{max_file, Checked, then_do, word, header_of, reward_fits, rewards_at, branch_at, branches_at, branch_size, choice_after, choice_at, choices_at, block_end, blocks_at, pairs_at, pair_fits, header_at, check_result}
+use Rattle.file_check.specs.Check.{max_file, word, header_of, reward_fits, rewards_at, branch_at, branches_at, branch_size, choice_after, choice_at, choices_at, block_end, blocks_at, pairs_at, pair_fits, header_at, check_result}
 use Rattle.file_check.specs.Decode.{rewards_in, branch_in, branches_in, choice_in, choices_in, states_in, decode}
 use Rattle.file_check.proofs.Steps.{then_ok}
 use Rattle.file_check.proofs.Pieces.{Piece, piece_split, piece_first, piece_word, field_ok}
@@ -32,9 +33,10 @@ module _ (xs : List ℕ) where
   rewards_read e p q (r ∷ rs) small h f =
       let s = piece_split (reward_bytes r) f in
       let w = piece_word (of_z w16 r) s.0 in
-      let k = reward_word r small.0 in
-      let fits : reward_fits (of_z w16 r) ≡ true = rw k (le-leb _ _ small.0) in
-      let m = rewards_read e (p + 2) q rs small.1 (omega arith) s.1 in
+      let low = All-head (λ r. nat_abs r ≤ max_reward) r rs small in
+      let k = reward_word r low in
+      let fits : reward_fits (of_z w16 r) ≡ true = rw k (le-leb _ _ low) in
+      let m = rewards_read e (p + 2) q rs (All-tail (λ r. nat_abs r ≤ max_reward) r rs small) (omega arith) s.1 in
       record {
         reads = rw (w, k, m.reads) refl;
         passes = then_ok _ (field_ok xs e p (of_z w16 r) (omega arith) w) ∙ (cond-true _ _ _ fits ∙ m.passes);
@@ -81,11 +83,12 @@ module _ (xs : List ℕ) where
     branches_read e p q sum [] f h k = record { reads = refl; passes = ap Ok (omega arith) }
     branches_read e p q sum (b ∷ bs) f h k =
         let s = piece_split (branch_bytes b) k in
-        let z = length_branch b f.0 in
+        let f0 = All-head (BranchFacts l.states l.divisor l.columns) b bs f in
+        let z = length_branch b f0 in
         let m = suc-mul (length bs) (branch_size l.columns) in
-        let one = branch_read e p _ b f.0 (omega arith) s.0 in
+        let one = branch_read e p _ b f0 (omega arith) s.0 in
         let rest : Piece xs (p + branch_size l.columns) (flat_map branch_bytes bs) q = subst (λ n. Piece xs (p + n) (flat_map branch_bytes bs) q) z s.1 in
-        let r = branches_read e (p + branch_size l.columns) q (sum + b.weight) bs f.1 (omega arith) rest in
+        let r = branches_read e (p + branch_size l.columns) q (sum + b.weight) bs (All-tail (BranchFacts l.states l.divisor l.columns) b bs f) (omega arith) rest in
         record {
           reads = rw (one.reads, r.reads) refl;
           passes = then_ok _ (sym one.passes) ∙ (r.passes ∙ ap Ok (omega arith));
@@ -94,8 +97,8 @@ module _ (xs : List ℕ) where
     length_branches : (bs : List Branch) → All (BranchFacts l.states l.divisor l.columns) bs → length (flat_map branch_bytes bs) ≡ length bs * branch_size l.columns
     length_branches [] f = sym (zero-mul (branch_size l.columns))
     length_branches (b ∷ bs) f =
-        let z = length_branch b f.0 in
-        let r = length_branches bs f.1 in
+        let z = length_branch b (All-head (BranchFacts l.states l.divisor l.columns) b bs f) in
+        let r = length_branches bs (All-tail (BranchFacts l.states l.divisor l.columns) b bs f) in
         length-append (branch_bytes b) (flat_map branch_bytes bs) ∙ omega (arith, suc-mul (length bs) (branch_size l.columns))
 
     record ChoiceRead (e p : ℕ) (bs : List Branch) : Type 0 where
@@ -134,8 +137,8 @@ module _ (xs : List ℕ) where
     choices_read (suc n) e p q (c ∷ cs) f h z k =
         let s = piece_split (choice_bytes c) k in
         let y : length (block (c ∷ cs)) ≡ length (choice_bytes c) + length (block cs) = length-append (choice_bytes c) (block cs) in
-        let one = choice_read e p _ c f.0 (omega arith) s.0 in
-        let r = choices_read n e (p + length (choice_bytes c)) q cs f.1 (omega arith) (omega arith) s.1 in
+        let one = choice_read e p _ c (All-head (ChoiceFacts l.states l.divisor l.columns) c cs f) (omega arith) s.0 in
+        let r = choices_read n e (p + length (choice_bytes c)) q cs (All-tail (ChoiceFacts l.states l.divisor l.columns) c cs f) (omega arith) (omega arith) s.1 in
         let b : ltb p e ≡ true = lt-ltb _ _ (omega arith) in
         record {
           reads = cond-true (ltb p e) _ _ b ∙ cons_same one.reads (ap (λ a. choices_in xs l.columns e a n) one.after ∙ r.reads);
@@ -163,9 +166,10 @@ module _ (xs : List ℕ) where
         let e4 : p + 2 + 2 ≡ p + 4 = omega arith in
         let u = piece_split (block cs) m in
         let y : length (flat_map block (cs ∷ ss)) ≡ length (block cs) + length (flat_map block ss) = length-append (block cs) (flat_map block ss) in
-        let b = block_some cs f.0.some in
-        let one = choices_read max_choices (block_end xs p) (word xs p) _ cs f.0.choices f.0.few (omega arith) (subst (λ a. Piece xs a (block cs) (o + length (block cs))) (sym w) u.0) in
-        let r = states_read (p + 4) (o + length (block cs)) q ss f.1 (omega arith) (subst (λ a. Piece xs a (pairs_bytes (o + length (block cs)) ss) q) e4 t.1) u.1 in
+        let f0 = All-head (StateFacts l.states l.divisor l.columns) cs ss f in
+        let b = block_some cs f0.some in
+        let one = choices_read max_choices (block_end xs p) (word xs p) _ cs f0.choices f0.few (omega arith) (subst (λ a. Piece xs a (block cs) (o + length (block cs))) (sym w) u.0) in
+        let r = states_read (p + 4) (o + length (block cs)) q ss (All-tail (StateFacts l.states l.divisor l.columns) cs ss f) (omega arith) (subst (λ a. Piece xs a (pairs_bytes (o + length (block cs)) ss) q) e4 t.1) u.1 in
         let fits : pair_fits xs p o ≡ true = and_from _ _ (eq-eqb _ _ w) (and_from _ _ (lt-ltb 0 (word xs (p + 2)) (omega arith)) (le-leb (o + word xs (p + 2)) (length xs) (omega arith))) in
         record {
           reads = cons_same one.reads r.reads;

@@ -1,6 +1,7 @@
 -- What an accepted file lets a reader rely on: each block and each choice ends within the file.
 use Rattle.std.proofs.Common.{◌≡◌, ℕ, zero, suc, ◌+◌, ◌*◌, ◌<◌, ◌≤◌, Bool, true, false, cond, ltb, List, [], ◌∷◌, length, get_or, Ok, All, sym, refl, arith}
 use Rattle.std.proofs.lemmas.Bool.{ltb-true}
+use Rattle.std.proofs.lemmas.List.Elements.{All-nil, All-cons}
 use Rattle.mdp.specs.Limits.{max_choices}
 use Rattle.file_check.specs.declared.check.Header.{Header}
 use Rattle.file_check.specs.Check.{then_do, word, header_of, choice_after, choice_at, choices_at, block_end, blocks_at, pairs_at, pair_fits}
@@ -12,22 +13,25 @@ use Rattle.file_check.proofs.Sound.{choice_sound}
 use Rattle.file_check.proofs.Accepted.{accepted_passed}
 
 module _ (xs : List ℕ) (b : Bytes xs) (l : Header) where
+  abbrev EndsBy : ℕ → ℕ → Type 0
+  EndsBy e a = choice_after xs l.columns a ≤ e
+
   abbrev Ends : ℕ → List ℕ → Type 0
-  Ends e starts = All (λ a. choice_after xs l.columns a ≤ e) starts
+  Ends e starts = All (EndsBy e) starts
 
   module _ (e z : ℕ) (le : e ≤ length xs) (ez : e ≤ z) where
     turn : (p n : ℕ) → ((p : ℕ) → choices_at xs l e p n ≡ Ok tt → Ends z (starts_in xs l.columns e p n))
         → (t : Bool) → ltb p e ≡ t → cond t (then_do (choice_at xs l e p) (λ q. choices_at xs l e q n)) (Ok tt) ≡ Ok tt
         → Ends z (cond t (p ∷ starts_in xs l.columns e (choice_after xs l.columns p) n) [])
-    turn p n ih false f m = tt
+    turn p n ih false f m = All-nil (EndsBy z)
     turn p n ih true f m =
         let g = then_inv (choice_at xs l e p) _ tt m in
         let c = choice_sound xs b l e le p g.0 (ltb-true _ _ f) g.1 in
-        (omega (arith, c.after, c.inside), ih (choice_after xs l.columns p) (rw c.after at g.2))
+        All-cons (EndsBy z) p _ (omega (arith, c.after, c.inside)) (ih (choice_after xs l.columns p) (rw c.after at g.2))
 
     starts_end : (n p : ℕ) → choices_at xs l e p n ≡ Ok tt → Ends z (starts_in xs l.columns e p n)
     unfolding starts_in
-    starts_end zero p m = tt
+    starts_end zero p m = All-nil (EndsBy z)
     starts_end (suc n) p m = turn p n (starts_end n) (ltb p e) refl m
 
   record StateEnds (p : ℕ) : Type 0 where

@@ -1,7 +1,7 @@
 -- The check names the first fault.
-use Rattle.std.proofs.Common.{◌≡◌, ℕ, zero, suc, ◌+◌, ◌-◌, ◌*◌, ◌<◌, ◌≤◌, Bool, true, false, cond, not, ◌&&◌, ◌||◌, eqb, ltb, leb, List, [], ◌∷◌, map, length, get_or, Some, None, Ok, sym, refl, ap, ◌∙◌, add-zero, add_assoc, zero-add, add-one, arith}
+use Rattle.std.proofs.Common.{◌≡◌, ℕ, zero, suc, ◌+◌, ◌-◌, ◌*◌, ◌<◌, ◌≤◌, Bool, true, false, cond, not, ◌&&◌, ◌||◌, eqb, ltb, leb, List, [], ◌∷◌, ◌++◌, map, length, get_or, Some, None, Ok, sym, refl, ap, ◌∙◌, add-zero, add_assoc, zero-add, add-one, arith}
 use Rattle.std.specs.List.{range_with_len, flat_map}
-use Rattle.std.proofs.lemmas.List.Elements.{All-append, All-map, All-from_get_or}
+use Rattle.std.proofs.lemmas.List.Elements.{All-nil, All-cons, All-head, All-append, All-map, All-from_get_or}
 use Rattle.std.proofs.lemmas.Bool.{cond_both, cond-false, lt-ltb, le-ltb, leb-true, and_parts, not-false, eq-eqb, ne_eqb}
 use Rattle.std.proofs.lemmas.Bool.Decides.{nat_tests}
 use Rattle.mdp.specs.Limits.{max_choices, max_branches}
@@ -12,7 +12,7 @@ use Rattle.file_check.specs.Decode.{branches_in, choice_in}
 use Rattle.file_check.specs.Places.{pair_place, choice_place, start_of}
 use Rattle.file_check.specs.Order.{Point, size, states, first, divisor, columns, zero_byte, pair_table, pair, count, weight, next, reward, sum, branch_points, choice_points, state_points, points, block_start, pair_right, holds_of, cut, field_offset, wrong, fault_of, fault_at, Right, FirstFault}
 use Rattle.file_check.proofs.Steps.{pair_parts}
-use Rattle.file_check.proofs.Points.{Gives, fine, all_fine, stop, test, both, ending, right_from, names_first}
+use Rattle.file_check.proofs.Points.{Fine, Gives, fine, all_fine, stop, test, both, ending, right_from, names_first}
 
 -- the number of columns
 abbrev width : List ℕ → ℕ
@@ -64,7 +64,11 @@ module _ (xs : List ℕ) where
 
   -- a branch that its choice lacks
   branch_right : (s k b : ℕ) → ((f : ℕ → Bool) → holds_of (choice_place xs s k) (λ a. ltb b (get_or xs a 0) && f a) ≡ false) → Right xs (branch_points (width xs) s k b)
-  branch_right s k b h = (h _, (h _, All-map _ (reward s k b) _ (All-from_get_or _ (range_with_len 0 (width xs)) 0 (λ _ _. h _))))
+  branch_right s k b h =
+      let rewards = map (reward s k b) (range_with_len 0 (width xs)) in
+      All-cons (Fine xs) (weight s k b) (next s k b ∷ rewards) (h _)
+      (All-cons (Fine xs) (next s k b) rewards (h _)
+      (All-map (Fine xs) (reward s k b) _ (All-from_get_or (λ i. Fine xs (reward s k b i)) (range_with_len 0 (width xs)) 0 (λ _ _. h _))))
 
   module _ (s k a : ℕ) (place : choice_place xs s k ≡ Some a) where
     module _ (b : ℕ) (lt : b < get_or xs a 0) where
@@ -110,7 +114,10 @@ module _ (xs : List ℕ) where
   choice_right : (s k : ℕ) → choice_place xs s k ≡ None → Right xs (choice_points (width xs) s k)
   choice_right s k place =
       let f = branch_points (width xs) s k in
-      (rw place refl, All-append _ (flat_map f (range_with_len 0 max_branches)) _ (right_from xs f 0 max_branches (λ j _. branch_right s k j (λ _. rw place refl))) (rw place refl, tt))
+      let branches = flat_map f (range_with_len 0 max_branches) in
+      All-cons (Fine xs) (count s k) (branches ++ (sum s k ∷ [])) (rw place refl)
+      (All-append (Fine xs) branches (sum s k ∷ []) (right_from xs f 0 max_branches (λ j _. branch_right s k j (λ _. rw place refl)))
+      (All-cons (Fine xs) (sum s k) [] (rw place refl) (All-nil (Fine xs))))
 
   past : (c e p j : ℕ) → ltb p e ≡ false → start_of xs c e p j ≡ None
   past c e p zero h = cond-false _ _ _ h
@@ -144,7 +151,7 @@ module _ (xs : List ℕ) where
       test size (within 8 max_file (length xs)) _ refl refl (λ _.
       both _ header_answer (λ r.
       test pair_table (leb (8 + 4 * word xs 0) (length xs)) _ (grind (arith, nat_tests)) refl (λ _.
-      both _ (pairs_answer 0 (word xs 0) (zero-add _) (leb-true _ _ (and_parts (leb 1 (word xs 0)) _ (not-false _ r.0)).0)) (λ _.
+      both _ (pairs_answer 0 (word xs 0) (zero-add _) (leb-true _ _ (and_parts (leb 1 (word xs 0)) _ (not-false _ (All-head (Fine xs) states (first ∷ divisor ∷ columns ∷ zero_byte ∷ []) r))).0)) (λ _.
       blocks_answer 0 (word xs 0)))))
 
 pub first_fault : (xs : List ℕ) → FirstFault xs (check_result xs)

@@ -1,10 +1,11 @@
 -- What an accepted file holds: a table with its facts, of which it is the file.
-use Rattle.std.proofs.Common.{◌≡◌, ℕ, zero, suc, ◌+◌, ◌-◌, ◌*◌, ◌<◌, ◌≤◌, Bool, true, false, cond, eqb, ltb, leb, List, [], ◌∷◌, ◌++◌, length, get_or, nat_abs, Ok, Err, All, sym, refl, ap, ◌∙◌, subst, suc-mul, zero-mul, arith, w16, to_z}
+use Rattle.std.proofs.Common.{◌≡◌, ℕ, zero, suc, ◌+◌, ◌*◌, ◌<◌, ◌≤◌, Bool, true, false, cond, eqb, ltb, leb, List, [], ◌∷◌, ◌++◌, length, get_or, nat_abs, Ok, All, sym, refl, ap, ◌∙◌, subst, suc-mul, zero-mul, arith, w16}
 use Rattle.std.specs.List.{flat_map}
 use Rattle.std.proofs.lemmas.Int.{of_z-to_z}
+use Rattle.std.proofs.lemmas.List.Elements.{All-nil, All-cons}
 use Rattle.std.proofs.lemmas.Bool.{ltb-false, ltb-true, leb-true, eqb-true, and_parts}
 use Rattle.mdp.specs.Limits.{max_states, max_divisor, max_columns, max_choices, max_branches, max_reward}
-use Rattle.mdp.specs.Table.{Choice, State, total_weight, BranchFacts, ChoiceFacts, StateFacts, Facts}
+use Rattle.mdp.specs.Table.{State, total_weight, BranchFacts, ChoiceFacts, StateFacts, Facts}
 use Rattle.file_check.specs.declared.check.Header.{Header}
 use Rattle.file_check.specs.Layout.{two, reward_bytes, branch_bytes, choice_bytes, block, pairs_bytes, header_bytes, encode}
 use Rattle.file_check.specs.Check.{max_file, then_do, within, word, header_of, field_at, reward_fits, rewards_at, branch_at, branches_at, branch_size, choice_after, choice_at, choices_at, block_end, blocks_at, pairs_at, pair_fits, header_at, check_result}
@@ -27,7 +28,7 @@ module _ (xs : List ℕ) (b : Bytes xs) where
   reward_piece p h = piece_as (word_piece xs b p h) (ap two (sym (of_z-to_z w16 (word xs p) (word_below xs b p))))
 
   rewards_sound : (e p n : ℕ) → e ≤ length xs → p ≤ e → rewards_at xs e p n ≡ Ok tt → RewardsOk e p n
-  rewards_sound e p zero le h k = record { inside = omega arith; small = tt; stands = piece_none (omega arith) }
+  rewards_sound e p zero le h k = record { inside = omega arith; small = All-nil (λ r. nat_abs r ≤ max_reward); stands = piece_none (omega arith) }
   rewards_sound e p (suc n) le h k =
       let f = then_inv (field_at xs e p) _ tt k in
       let g = field_inv xs e p f.0 f.1 in
@@ -37,7 +38,7 @@ module _ (xs : List ℕ) (b : Bytes xs) where
       let z : p + 2 + 2 * n ≡ p + 2 * suc n = omega arith in
       record {
         inside = omega arith;
-        small = (leb-true _ max_reward fits, r.small);
+        small = All-cons (λ r. nat_abs r ≤ max_reward) _ _ (leb-true _ max_reward fits) r.small;
         stands = piece_to (piece_join (reward_piece p (omega arith)) r.stands) z;
       }
 
@@ -94,7 +95,7 @@ module _ (xs : List ℕ) (b : Bytes xs) where
     branches_sound p zero sum s h k =
         let z : sum ≡ s = ok_same _ _ k in
         let o : p ≡ p + 0 * branch_size l.columns = omega (arith, zero-mul (branch_size l.columns)) in
-        record { inside = omega arith; total = omega arith; facts = tt; stands = piece_none o }
+        record { inside = omega arith; total = omega arith; facts = All-nil (BranchFacts l.states l.divisor l.columns); stands = piece_none o }
     branches_sound p (suc n) sum s h k =
         let f = then_inv (branch_at xs l e p) _ s k in
         let g = branch_sound p f.0 f.1 in
@@ -104,7 +105,7 @@ module _ (xs : List ℕ) (b : Bytes xs) where
         record {
           inside = omega arith;
           total = omega arith;
-          facts = (g.facts, r.facts);
+          facts = All-cons (BranchFacts l.states l.divisor l.columns) _ _ g.facts r.facts;
           stands = piece_to (piece_join g.stands r.stands) o;
         }
 
@@ -143,7 +144,7 @@ module _ (xs : List ℕ) (b : Bytes xs) where
     choices_none : (p n : ℕ) → p ≤ e → ltb p e ≡ false → ChoicesOk p n []
     choices_none p n h f =
         let g = ltb-false _ _ f in
-        record { few = omega arith; some = λ m. omega arith; facts = tt; stands = piece_none (omega arith) }
+        record { few = omega arith; some = λ m. omega arith; facts = All-nil (ChoiceFacts l.states l.divisor l.columns); stands = piece_none (omega arith) }
 
     choices_turn : (p n : ℕ) → ((p : ℕ) → p ≤ e → choices_at xs l e p n ≡ Ok tt → ChoicesOk p n (choices_in xs l.columns e p n))
         → (t : Bool) → ltb p e ≡ t → p ≤ e → cond t (then_do (choice_at xs l e p) (λ r. choices_at xs l e r n)) (Ok tt) ≡ Ok tt
@@ -155,7 +156,7 @@ module _ (xs : List ℕ) (b : Bytes xs) where
         record {
           few = omega arith;
           some = λ _. omega arith;
-          facts = (g.facts, r.facts);
+          facts = All-cons (ChoiceFacts l.states l.divisor l.columns) _ _ g.facts r.facts;
           stands = piece_join (piece_to g.stands g.after) r.stands;
         }
     choices_turn p n ih false b h k = choices_none p (suc n) h b
@@ -181,7 +182,7 @@ module _ (xs : List ℕ) (b : Bytes xs) where
     states_sound : (n p o : ℕ) → p + 4 * n ≤ length xs → pairs_at xs p o n ≡ Ok tt → blocks_at xs l p n ≡ Ok tt → StatesOk p o n
     states_sound zero p o h k m =
         let c = cond_inv (eqb o (length xs)) (Ok tt) _ tt k in
-        record { facts = tt; pairs = piece_none (omega arith); blocks = piece_none (eqb-true _ _ c.0) }
+        record { facts = All-nil (StateFacts l.states l.divisor l.columns); pairs = piece_none (omega arith); blocks = piece_none (eqb-true _ _ c.0) }
     states_sound (suc n) p o h k m =
         let c = cond_inv (pair_fits xs p o) _ _ tt k in
         let w = pair_parts xs p o (sym c.0) in
@@ -195,7 +196,7 @@ module _ (xs : List ℕ) (b : Bytes xs) where
         let en : p + 4 + 4 * n ≡ p + 4 * suc n = omega arith in
         let eo : end ≡ o + word xs (p + 2) = omega arith in
         record {
-          facts = (record { some = s.some (omega arith); few = s.few; choices = s.facts }, r.facts);
+          facts = All-cons (StateFacts l.states l.divisor l.columns) _ _ (record { some = s.some (omega arith); few = s.few; choices = s.facts }) r.facts;
           pairs = piece_to (pair_piece p o cs ss (omega arith) w.stands size r.pairs) en;
           blocks = piece_join (piece_to (subst (λ a. Piece xs a (block cs) end) w.stands s.stands) eo) r.blocks;
         }

@@ -1,6 +1,7 @@
 -- A branch with all its rewards. Assumes nothing.
 use Rattle.std.proofs.Common.{◌≡◌, ℕ, zero, suc, ◌≤◌, cond, ltb, List, [], ◌∷◌, length, get_or, ℤ, pos, nat_abs, sym, refl, ap, ◌∙◌, zero-le, arith}
 use Rattle.std.proofs.lemmas.List.{get_or_past}
+use Rattle.std.proofs.lemmas.List.Elements.{All-nil, All-cons}
 use Rattle.mdp.specs.Table.{Table, Branch}
 use Rattle.mdp.specs.declared.WholeBranch.{WholeBranch}
 use Rattle.plans.specs.declared.Objective.{Objective}
@@ -17,7 +18,13 @@ usual_fair t b h few = record {
 }
 
 pub fair_usual : (t : Table) (b : Branch) → Fair t b → Usual (length t.states) (padded b)
-fair_usual t b h = record { next_in = h.next; rewards_small = (h.rewards 0, (h.rewards 1, (h.rewards 2, (h.rewards 3, tt)))) }
+fair_usual t b h =
+    let P : ℤ → Type 0 = λ r. nat_abs r ≤ 1000 in
+    let r : ℕ → ℤ = λ i. get_or b.rewards i (pos 0) in
+    record {
+      next_in = h.next;
+      rewards_small = All-cons P (r 0) (r 1 ∷ r 2 ∷ r 3 ∷ []) (h.rewards 0) (All-cons P (r 1) (r 2 ∷ r 3 ∷ []) (h.rewards 1) (All-cons P (r 2) (r 3 ∷ []) (h.rewards 2) (All-cons P (r 3) [] (h.rewards 3) (All-nil P))));
+    }
 
 -- padding adds nothing
 padded_read : (rs : List ℤ) → length rs ≤ 4 → (i : ℕ) → get_or (get_or rs 0 (pos 0) ∷ get_or rs 1 (pos 0) ∷ get_or rs 2 (pos 0) ∷ get_or rs 3 (pos 0) ∷ []) i (pos 0) ≡ get_or rs i (pos 0)

@@ -6,10 +6,10 @@ use Rattle.mdp.specs.declared.WholeBranch.{WholeBranch}
 use Rattle.plans.specs.Blends.{Weighed, Mean, running}
 use Rattle.plans.specs.Plans.{no_branch, no_objective, earns}
 use Rattle.plans.specs.Sweep.{weighed, grains, part_at}
-use Rattle.blend.specs.Running.{max_amount, MayAdd, MayFinish}
+use Rattle.blend.specs.Running.{max_amount, MayAdd}
 use Rattle.sweep.specs.Steps.{plain, padded, Ready, choice_of, part_after, part_of}
 use Rattle.sweep.specs.declared.Step.{Step}
-use Rattle.sweep.proofs.Running.{Going, going_start, going_add, going_more, going_finish, going_end}
+use Rattle.sweep.proofs.Running.{Going, going_start, going_add, going_more, going_end}
 use Rattle.sweep.proofs.Worths.{light_at, part_read, part_small}
 
 -- where there is no such objective, its amounts do not matter

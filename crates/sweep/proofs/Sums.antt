@@ -1,8 +1,6 @@
 -- Sums of small signed numbers at 64 bits, as the code has them. Assumes nothing.
-use Rattle.std.proofs.Common.{◌≡◌, ℕ, ◌^◌, ◌≤◌, ℤ, ◌+ℤ◌, nat_abs, arith, w64, SFits, to_z, of_z}
-use Rattle.std.proofs.lemmas.Int.{ints, to_z-of_z}
-use Rattle.plans.proofs.Amounts.{natAbs_add}
-use Rattle.blend.proofs.Fits.{fits_small}
+use Rattle.std.proofs.Common.{◌≡◌, ◌^◌, ◌≤◌, ℤ, ◌+ℤ◌, nat_abs, arith, w64, SFits, to_z, of_z}
+use Rattle.std.proofs.lemmas.Int.{ints}
 
 module _ (a b c : ℤ) (fa : nat_abs a ≤ 2 ^ 32) (fb : nat_abs b ≤ 2 ^ 32) (fc : nat_abs c ≤ 2 ^ 32) where
   pub two : to_z w64 (of_z w64 (to_z w64 (of_z w64 a) +ℤ to_z w64 (of_z w64 b))) ≡ a +ℤ b

@@ -1,6 +1,7 @@
 -- A test of every element, and what the tests of a sweep say. Assumes nothing.
-use Rattle.std.proofs.Common.{◌≡◌, ℕ, ◌+◌, ◌<◌, ◌≤◌, Bool, true, false, ◌&&◌, eqb, leb, List, [], ◌∷◌, length, get_or, drop, All, sym, refl, ap, ◌∙◌}
+use Rattle.std.proofs.Common.{◌≡◌, ℕ, ◌+◌, ◌<◌, ◌≤◌, Bool, true, false, ◌&&◌, eqb, leb, List, [], ◌∷◌, length, get_or, drop, All, sym, ap, ◌∙◌}
 use Rattle.std.proofs.lemmas.List.{drop_more, drop_all}
+use Rattle.std.proofs.lemmas.List.Elements.{All-nil, All-cons}
 use Rattle.std.proofs.lemmas.Bool.{and_parts, leb-true, eqb-true}
 use Rattle.plans.specs.declared.Objective.{Objective}
 use Rattle.sweep.specs.Limits.{max_objectives, max_weight, max_bound}
@@ -19,8 +20,8 @@ module _ {X : Type 0} (test : X → Bool) where
     pass_end l = ap (all_pass test) (drop_all i xs l)
 
   pass_all : (P : X → Type 0) → ((x : X) → test x ≡ true → P x) → (xs : List X) → all_pass test xs ≡ true → All P xs
-  pass_all P each [] e = tt
-  pass_all P each (x ∷ xs) e = let h = and_parts (test x) (all_pass test xs) e in (each x h.0, pass_all P each xs h.1)
+  pass_all P each [] e = All-nil P
+  pass_all P each (x ∷ xs) e = let h = and_parts (test x) (all_pass test xs) e in All-cons P x xs (each x h.0) (pass_all P each xs h.1)
 
 pub asked_so : (os : List Objective) (ws : List ℕ) → asked os ws ≡ true → Asked os ws
 asked_so os ws e =

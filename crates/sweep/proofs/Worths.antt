@@ -1,9 +1,8 @@
 -- What a step's branches are worth, in the table's own branches. Assumes nothing.
-use Rattle.std.proofs.Common.{◌≡◌, ℕ, ◌≤◌, true, false, cond, ltb, length, get_or, ℤ, pos, ◌+ℤ◌, ◌*ℤ◌, nat_abs, sym, refl, ap, ◌∙◌, subst, zero-le, arith}
+use Rattle.std.proofs.Common.{◌≡◌, ℕ, ◌≤◌, true, false, cond, ltb, length, get_or, ℤ, pos, ◌+ℤ◌, ◌*ℤ◌, nat_abs, sym, ap, ◌∙◌, subst, zero-le, arith}
 use Rattle.mdp.specs.Table.{Table, Branch, Facts, total_weight}
 use Rattle.mdp.specs.Limits.{max_divisor}
 use Rattle.mdp.specs.declared.WholeBranch.{WholeBranch}
-use Rattle.plans.specs.declared.Objective.{Objective}
 use Rattle.plans.specs.Plans.{no_branch, no_objective, earns, earns_by}
 use Rattle.plans.specs.Sweep.{ceiling_at, part_at, grains}
 use Rattle.plans.proofs.Limits.{Fair, sound_at, fair_at, earns_within, earns_by_within, grains_within}

@@ -7,7 +7,7 @@ use Rattle.plans.specs.declared.Objective.{Objective}
 use Rattle.plans.specs.declared.Row.{Row}
 use Rattle.plans.specs.Totals.{◌·◌}
 use Rattle.plans.specs.Blends.{Mean}
-use Rattle.plans.specs.Plans.{no_branch, no_objective, choice_at, earns, earns_by}
+use Rattle.plans.specs.Plans.{no_objective, choice_at, earns, earns_by}
 use Rattle.plans.specs.Sweep.{ceiling_at, part_at, grains, choice_ceiling, choice_part, taken, row_at}
 use Rattle.sweep.specs.Limits.{max_objectives, max_weight, max_worth}
 use Rattle.sweep.specs.declared.Step.{Step}

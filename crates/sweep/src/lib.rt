@@ -203,7 +203,7 @@ impl<M: Model> Step<'_, '_, M> {
 
     fn part_from<D: Blend>(&self, running: D::Running, part: usize) -> i64
         requires { MayFinish D.Blend.after running self.now.divisor }
-        ensures { result ≡ (if nat_lt part (length self.now.objectives.now) then D.Blend.result running self.now.divisor else pos 0) }
+        ensures { result ≡ (if nat_lt part (length self.now.objectives.now) then D.Blend.outcome running self.now.divisor else pos 0) }
     {
         if part < self.objectives.len() {
             D::finish(running, self.divisor)

@@ -3,6 +3,7 @@ use Rattle.std.proofs.Common.{◌≡◌, ℕ, zero, suc, ◌<◌, ◌≤◌, Lis
 use Rattle.std.specs.Option.{option_map}
 use Rattle.std.specs.List.{slice_get}
 use Rattle.std.proofs.lemmas.Option.{slice_get-get_or, slice_get_past}
+use Rattle.std.proofs.lemmas.List.Elements.{All-head, All-tail, All-from_recursion}
 use Rattle.mdp.specs.declared.WholeBranch.{WholeBranch}
 use Rattle.mdp.specs.Limits.{max_columns, max_reward}
 use Rattle.mdp.specs.Table.{Branch, Table, BranchFacts, ChoiceFacts, StateFacts, Facts}
@@ -11,8 +12,8 @@ use Rattle.tables.specs.Whole.{all_rewards, whole_of}
 
 found_nth : {X : Type 0} (P : X → Type 0) (xs : List X) (i : ℕ) → All P xs → IfSome (slice_get xs i) P
 found_nth P [] i a = tt
-found_nth P (x ∷ xs) zero a = a.0
-found_nth P (x ∷ xs) (suc i) a = found_nth P xs i a.1
+found_nth P (x ∷ xs) zero a = All-head P x xs a
+found_nth P (x ∷ xs) (suc i) a = found_nth P xs i (All-tail P x xs a)
 
 found_bind : {X Y : Type 0} (P : X → Type 0) (Q : Y → Type 0) (o : Option X) (f : X → Option Y) → IfSome o P → ((x : X) → P x → IfSome (f x) Q) → IfSome (bind o f) Q
 found_bind P Q None f h k = tt
@@ -78,7 +79,7 @@ whole_rewards_small t s c b w f e =
     subst (λ o. IfSome o P) (sym (e ∙ whole_branch_is t s c b)) (found_mapped (InTable t) P whole_of (branch_of t s c b) (branch_found t s c b f)
     (λ x h.
     let at = λ (i : ℕ). value_small (slice_get x.rewards i) (found_nth Small x.rewards i h.rewards_small) in
-    (at 0, (at 1, (at 2, (at 3, tt))))))
+    All-from_recursion Small (all_rewards x.rewards) (at 0, (at 1, (at 2, (at 3, tt))))))
 
 mapped_whole : {X : Type 0} (p : WholeBranch → X) (q : Branch → X) → ((x : Branch) → p (whole_of x) ≡ q x) → (o : Option Branch) → option_map p (option_map whole_of o) ≡ option_map q o
 mapped_whole p q e None = refl

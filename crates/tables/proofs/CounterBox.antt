@@ -1,12 +1,13 @@
 -- The counter box's table has the facts, and what is asked of it.
-use Rattle.std.proofs.Common.{◌≡◌, ℕ, ◌+◌, ◌-◌, ◌<◌, ◌≤◌, ltb, List, [], ◌∷◌, map, length, pos, Some, None, All, Option, sym, refl, ap, ◌∙◌, subst, arith}
+use Rattle.std.proofs.Common.{◌≡◌, ℕ, ◌+◌, ◌-◌, ◌<◌, ◌≤◌, ltb, List, [], ◌∷◌, map, length, pos, neg_ℤ, nat_abs, get_or, Some, None, All, Option, sym, refl, ap, ◌∙◌, subst, arith}
 use Rattle.std.specs.Option.{option_map}
 use Rattle.std.specs.List.{slice_get, range_with_len}
 use Rattle.std.proofs.lemmas.Option.{slice_get-get_or, slice_get_past}
 use Rattle.std.proofs.lemmas.List.FromFn.{length-map-range_with_len, get_or-map-range_with_len}
-use Rattle.std.proofs.lemmas.List.Elements.{All-map}
+use Rattle.std.proofs.lemmas.List.Elements.{All-map, All-from_recursion}
 use Rattle.std.proofs.lemmas.Bool.{cond-true, cond-false, cond_both, ltb-true, lt-ltb, le-ltb}
 use Rattle.mdp.specs.declared.WholeBranch.{WholeBranch}
+use Rattle.mdp.specs.Limits.{max_reward}
 use Rattle.mdp.specs.Table.{State, BranchFacts, ChoiceFacts, StateFacts, Facts}
 use Rattle.mdp.specs.Questions.{bind, state_of, choice_count, branch_count, whole_branch}
 use Rattle.tables.specs.CounterBox.{max_limit, max_chance, percent, reset_exposure, box_branch, enter, open_state, full_state, box_state, branch_in, counter_box}
@@ -15,8 +16,7 @@ use Rattle.tables.proofs.Asked.{whole_branch_is}
 use Rattle.tables.proofs.Kept.{abs_neg}
 
 all_any : {X : Type 0} (P : X → Type 0) → ((x : X) → P x) → (xs : List X) → All P xs
-all_any P h [] = tt
-all_any P h (x ∷ xs) = (h x, all_any P h xs)
+all_any P h xs = λ k d l. h (get_or xs k d)
 
 module _ (n g : ℕ) (limit-low : 1 ≤ n) (limit-high : n ≤ max_limit) (chance-low : 1 ≤ g) (chance-high : g ≤ max_chance) where
   branch_facts : (w next opened exposed : ℕ) → 1 ≤ w → w ≤ percent → next < n + 1 → opened ≤ 1 → exposed ≤ max_limit → BranchFacts (n + 1) percent 2 (box_branch w next opened exposed)
@@ -27,7 +27,7 @@ module _ (n g : ℕ) (limit-low : 1 ≤ n) (limit-high : n ≤ max_limit) (chanc
         weight_high = high;
         next_in = l;
         rewards_all = refl;
-        rewards_small = (omega arith, (omega arith, tt));
+        rewards_small = All-from_recursion (λ r. nat_abs r ≤ max_reward) (pos opened ∷ neg_ℤ (pos exposed) ∷ []) (omega arith, (omega arith, tt));
       }
 
   single_facts : (exposed : ℕ) → exposed ≤ max_limit → ChoiceFacts (n + 1) percent 2 (box_branch percent 0 0 exposed ∷ [])
@@ -35,7 +35,7 @@ module _ (n g : ℕ) (limit-low : 1 ≤ n) (limit-high : n ≤ max_limit) (chanc
     some = omega arith;
     few = omega arith;
     whole = refl;
-    branches = (branch_facts percent 0 0 exposed (omega arith) (omega arith) (omega arith) (omega arith) h, tt);
+    branches = All-from_recursion (BranchFacts (n + 1) percent 2) (box_branch percent 0 0 exposed ∷ []) (branch_facts percent 0 0 exposed (omega arith) (omega arith) (omega arith) (omega arith) h, tt);
   }
 
   enter_facts : (k : ℕ) → k < n → ChoiceFacts (n + 1) percent 2 (enter g k)
@@ -43,7 +43,7 @@ module _ (n g : ℕ) (limit-low : 1 ≤ n) (limit-high : n ≤ max_limit) (chanc
     some = omega arith;
     few = omega arith;
     whole = omega arith;
-    branches = (
+    branches = All-from_recursion (BranchFacts (n + 1) percent 2) (enter g k) (
       branch_facts g 0 1 k chance-low (omega arith) (omega arith) (omega arith) (omega arith),
       (branch_facts (percent - g) (k + 1) 0 k (omega arith) (omega arith) (omega arith) (omega arith) (omega arith), tt),
     );
@@ -52,8 +52,8 @@ module _ (n g : ℕ) (limit-low : 1 ≤ n) (limit-high : n ≤ max_limit) (chanc
   state_facts : (k : ℕ) → StateFacts (n + 1) percent 2 (box_state n g k)
   state_facts k =
       cond_both (ltb k n) (open_state g k) full_state (StateFacts (n + 1) percent 2)
-      (λ e. record { some = omega arith; few = omega arith; choices = (enter_facts k (ltb-true k n e), (single_facts 0 (omega arith), tt)) })
-      (λ e. record { some = omega arith; few = omega arith; choices = (single_facts reset_exposure (omega arith), tt) })
+      (λ e. record { some = omega arith; few = omega arith; choices = All-from_recursion (ChoiceFacts (n + 1) percent 2) (open_state g k) (enter_facts k (ltb-true k n e), (single_facts 0 (omega arith), tt)) })
+      (λ e. record { some = omega arith; few = omega arith; choices = All-from_recursion (ChoiceFacts (n + 1) percent 2) full_state (single_facts reset_exposure (omega arith), tt) })
 
   pub counter_box_facts : Facts (counter_box n g)
   unfolding counter_box

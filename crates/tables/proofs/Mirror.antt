@@ -5,6 +5,7 @@ use Rattle.std.specs.Option.{option_map}
 use Rattle.std.specs.List.{slice_get}
 use Rattle.std.proofs.lemmas.Option.{slice_get-get_or}
 use Rattle.std.proofs.lemmas.Bool.{cond-true, cond-false, cond_both, and_parts, ltb-true}
+use Rattle.std.proofs.lemmas.List.Elements.{All-head, All-tail}
 use Rattle.mdp.specs.declared.WholeBranch.{WholeBranch}
 use Rattle.mdp.specs.Limits.{max_columns, max_reward}
 use Rattle.mdp.specs.Table.{Branch, Table, BranchFacts, Facts}
@@ -19,8 +20,8 @@ use Rattle.tables.proofs.Kept.{abs_neg, extended_facts, states_kept, extended_ta
 
 small_getD : (rs : List ℤ) (j : ℕ) → All (λ r. nat_abs r ≤ max_reward) rs → nat_abs (get_or rs j (pos 0)) ≤ max_reward
 small_getD [] j a = omega arith
-small_getD (r ∷ rs) zero a = a.0
-small_getD (r ∷ rs) (suc j) a = small_getD rs j a.1
+small_getD (r ∷ rs) zero a = All-head (λ v. nat_abs v ≤ max_reward) r rs a
+small_getD (r ∷ rs) (suc j) a = small_getD rs j (All-tail (λ v. nat_abs v ≤ max_reward) r rs a)
 
 mirror_table_facts : (j : ℕ) (t : Table) → t.columns < max_columns → Facts t → Facts (mirror_table j t)
 unfolding mirror_table

@@ -1,12 +1,12 @@
-use Rattle.std.proofs.Common.{◌≤◌, true, false, get_or, zero-le, arith}
+use Rattle.std.proofs.Common.{◌≤◌, true, false, zero-le, arith}
 use Rattle.plans.proofs.Limits.{all_or}
 use Rattle.sweep.specs.Limits.{max_weight}
 use Rattle.sweep.proofs.Gains.{gain_more, gain_end}
 use Rattle.sweep.proofs.column_gain.Goals as goal
-use Rattle.sweep.proofs.column_gain.Goals.{then-is-counted-in, else-is-counted-in}
+use Rattle.sweep.proofs.column_gain.Goals.{then-is_counted_in, else-is_counted_in}
 
-pub overflow-add-gain : goal.overflow-add-gain
-overflow-add-gain c =
+pub overflow_add-gain : goal.overflow_add-gain
+overflow_add-gain c =
     let light = all_or (λ w. w ≤ max_weight) c.args.weights.now c.loop-i.i 0 zero-le c.requires.light in
     record { fits = omega (arith, c.loop-i.invariant.0, c.loop-i-test.true, c.requires.few, c.requires.same, light) }
 
@@ -16,7 +16,7 @@ loop-i-preserved c =
     let i = c.loop-i.i in
     let light = all_or (λ w. w ≤ max_weight) a.weights.now i 0 zero-le c.requires.light in
     let more = gain_more a.weights.now a.objectives.now a.step a.column i (omega (arith, c.requires.same, c.loop-i-test.true)) c.loop-i-test.true in
-    elim c.if-is-counted-in.branch [ then-is-counted-in w ↦ let e = more true w.if-is-counted-in.ensures in omega (arith, w.gain-is) | else-is-counted-in w ↦ let e = more false w.if-is-counted-in.ensures in omega (arith, w.gain-is) ]
+    elim c.if-is_counted_in.branch [ then-is_counted_in w ↦ let e = more true w.if-is_counted_in.ensures in omega (arith, w.gain-is) | else-is_counted_in w ↦ let e = more false w.if-is_counted_in.ensures in omega (arith, w.gain-is) ]
 
 pub returns : goal.returns
 returns c =

@@ -1,8 +1,8 @@
-use Rattle.std.proofs.Common.{◌≡◌, ℕ, ◌-◌, ◌*◌, true, leb, List, ◌++◌, length, get_or, drop, Some, sym, ap, ◌∙◌, arith}
+use Rattle.std.proofs.Common.{◌≡◌, ℕ, ◌-◌, ◌*◌, true, List, ◌++◌, length, drop, Some, sym, ap, ◌∙◌, arith}
 use Rattle.std.proofs.lemmas.Bool.{and_from, le-leb}
 use Rattle.plans.specs.declared.Row.{Row}
 use Rattle.plans.specs.Plans.{horizon}
-use Rattle.plans.specs.Sweep.{no_row, rows}
+use Rattle.plans.specs.Sweep.{rows}
 use Rattle.sweep.specs.Swept.{Asked, asked, askable}
 use Rattle.sweep.proofs.Tested.{asked_so}
 use Rattle.sweep.proofs.Turns.{start_beyond, start_halves, turn_room, turn_small, turn_halves, first_row}
@@ -11,17 +11,17 @@ use Rattle.sweep.proofs.sweep.Goals as goal
 pub loop-step-init : goal.loop-step-init
 loop-step-init g c =
     let a = c.args in
-    start_halves g.U.Blend.mean g.D.Blend.mean (g.M.Model.table a.model.now) a.objectives.now a.weights.now c.states-states.result a.rows.now c.clear.new.rows c.states-states.ensures c.clear.ensures _ (omega (arith, c.last-bound-step.ensures))
+    start_halves g.U.Blend.mean g.D.Blend.mean (g.M.Model.table a.model.now) a.objectives.now a.weights.now c.states-states.result a.rows.now c.clear.new.rows c.states-states.ensures c.clear.ensures _ (omega (arith, c.last_bound-step.ensures))
 
-pub sweep-step-requires : goal.sweep-step-requires
-sweep-step-requires g c =
+pub sweep_step-requires : goal.sweep_step-requires
+sweep_step-requires g c =
     let a = c.args in
     let u = g.U.Blend in
     let d = g.D.Blend in
     let t = g.M.Model.table a.model.now in
     let n = horizon a.objectives.now - c.loop-step.step in
     let rest = drop (2 * length t.states) c.clear.new.rows in
-    let asks : Asked a.objectives.now a.weights.now = asked_so a.objectives.now a.weights.now (sym c.if-not-is-asked.ensures) in
+    let asks : Asked a.objectives.now a.weights.now = asked_so a.objectives.now a.weights.now (sym c.if-not-is_asked.ensures) in
     record {
       asked = asks;
       divided = c.divisor-divisor.ensures;
@@ -35,7 +35,7 @@ loop-step-preserved g c =
     let t = g.M.Model.table a.model.now in
     let n = horizon a.objectives.now - c.loop-step.step in
     let rest = drop (2 * length t.states) c.clear.new.rows in
-    c.sweep-step.ensures ∙ turn_halves g.U.Blend.mean g.D.Blend.mean t a.objectives.now a.weights.now n rest c.loop-step.rows c.loop-step.invariant (c.loop-step.step - 1) (omega (arith, c.loop-step-test.true, c.loop-step.auto.step, c.last-bound-step.ensures)) (horizon a.objectives.now - (c.loop-step.step - 1)) (omega (arith, c.loop-step-test.true, c.loop-step.auto.step, c.last-bound-step.ensures))
+    c.sweep_step.ensures ∙ turn_halves g.U.Blend.mean g.D.Blend.mean t a.objectives.now a.weights.now n rest c.loop-step.rows c.loop-step.invariant (c.loop-step.step - 1) (omega (arith, c.loop-step-test.true, c.loop-step.auto.step, c.last_bound-step.ensures)) (horizon a.objectives.now - (c.loop-step.step - 1)) (omega (arith, c.loop-step-test.true, c.loop-step.auto.step, c.last_bound-step.ensures))
 
 pub returns : goal.returns
 returns g c =
@@ -53,5 +53,5 @@ returns g c =
     let old = start_beyond up down t os ws c.states-states.result a.rows.now c.clear.new.rows c.states-states.ensures c.clear.ensures in
     let at = first_row up down t os ws k rest c.loop-step.rows all (g.M.Model.facts a.model.now).first_in c.first.result c.first.ensures in
     let room = le-leb (2 * length t.states) (length a.rows.now) (omega (arith, c.if-rows-states.false, c.states-states.ensures)) in
-    let yes : askable up down t os ws a.rows.now ≡ true = and_from (asked os ws) _ (sym c.if-not-is-asked.ensures) room in
+    let yes : askable up down t os ws a.rows.now ≡ true = and_from (asked os ws) _ (sym c.if-not-is_asked.ensures) room in
     record { rows = rw yes (all ∙ ap (λ (r : List Row). R k ++ (R (k - 1) ++ r)) old); answer = rw yes (ap Some at) }

@@ -6,7 +6,7 @@ use Rattle.file_check.proofs.check.check.Goals as goal
 
 pub returns : goal.returns
 returns c = record {
-  answer = c.first-fault.ensures;
-  order = subst (FirstFault c.args.bytes.now) (sym c.first-fault.ensures) (first_fault c.args.bytes.now);
+  answer = c.first_fault.ensures;
+  order = subst (FirstFault c.args.bytes.now) (sym c.first_fault.ensures) (first_fault c.args.bytes.now);
   layout = accepted.layout;
 }

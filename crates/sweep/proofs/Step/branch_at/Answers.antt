@@ -4,4 +4,4 @@ use Rattle.sweep.proofs.Step.branch_at.Goals as goal
 pub returns : goal.returns
 returns g c =
     let a = c.args in
-    branch_read (g.M.Model.table a.self.now.model.now) a.state a.choice a.branch c.branch-self.result c.unwrap-or.result c.branch-self.ensures c.unwrap-or.ensures
+    branch_read (g.M.Model.table a.self.now.model.now) a.state a.choice a.branch c.branch-self.result c.unwrap_or.result c.branch-self.ensures c.unwrap_or.ensures

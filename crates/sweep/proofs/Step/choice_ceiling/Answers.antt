@@ -1,4 +1,4 @@
-use Rattle.std.proofs.Common.{◌≡◌, get_or, sym, ap, ◌∙◌, subst, arith, w64, to_z, of_z}
+use Rattle.std.proofs.Common.{get_or, sym, ap, ◌∙◌, subst, arith, w64, to_z, of_z}
 use Rattle.std.proofs.lemmas.Int.{to_z-of_z}
 use Rattle.mdp.specs.declared.WholeBranch.{WholeBranch}
 use Rattle.plans.specs.Blends.{running}
@@ -11,11 +11,11 @@ use Rattle.sweep.proofs.Running.{Going, going_start, going_add, going_more, goin
 use Rattle.sweep.proofs.Worths.{light_at, usual_at, ceiling_read, ceiling_small}
 use Rattle.sweep.proofs.Step.choice_ceiling.Goals as goal
 
-pub ceiling-after-amount-requires : goal.ceiling-after-amount-requires
-ceiling-after-amount-requires g c =
+pub ceiling_after-amount-requires : goal.ceiling_after-amount-requires
+ceiling_after-amount-requires g c =
     let a = c.args in
     let m = g.M.Model in
-    record { ready = c.requires; usual = usual_at m.table m.facts a.self.now a.state a.choice c.loop-index.index c.branch-at-branch.result c.branch-at-branch.ensures }
+    record { ready = c.requires; usual = usual_at m.table m.facts a.self.now a.state a.choice c.loop-index.index c.branch_at-branch.result c.branch_at-branch.ensures }
 
 pub loop-index-init : goal.loop-index-init
 loop-index-init g c =
@@ -24,7 +24,7 @@ loop-index-init g c =
     let u = g.U.Blend in
     let bs = choice_of m.table a.self.now a.state a.choice in
     let worth = ceiling_after a.self.now in
-    subst (λ (r : g.U.Running.Denot). Going u.more u.after worth (running u.more u.none (weighed worth bs)) r bs) (sym c.start-running.ensures) (going_start u.more u.after worth u.none u.starts bs (light_at m.table m.facts a.self.now a.state a.choice))
+    subst (λ (r : g.row.U-Running.Denot). Going u.more u.after worth (running u.more u.none (weighed worth bs)) r bs) (sym c.start-running.ensures) (going_start u.more u.after worth u.none u.starts bs (light_at m.table m.facts a.self.now a.state a.choice))
 
 pub add-running-requires : goal.add-running-requires
 add-running-requires g c =
@@ -33,12 +33,12 @@ add-running-requires g c =
     let m = g.M.Model in
     let u = g.U.Blend in
     let j = c.loop-index.index in
-    let r = c.branch-at-branch.result in
-    let z = c.ceiling-after-amount.result in
+    let r = c.branch_at-branch.result in
+    let z = c.ceiling_after-amount.result in
     let bs = choice_of m.table p a.state a.choice in
     let worth = ceiling_after p in
-    let small = passed_within z (worth (get_or bs j no_branch)) max_amount (ceiling_read m.table m.facts p a.state a.choice j r c.branch-at-branch.ensures z c.ceiling-after-amount.ensures) (ceiling_small m.table m.facts p c.requires a.state a.choice j) (omega arith) in
-    going_add u.more u.after worth (running u.more u.none (weighed worth bs)) c.loop-index.running bs j c.loop-index.invariant (omega (arith, c.loop-index-test.true, c.branch-count-index-end.ensures)) r.weight (to_z w64 (of_z w64 z)) (ap (λ (b : WholeBranch). b.weight) c.branch-at-branch.ensures) small
+    let small = passed_within z (worth (get_or bs j no_branch)) max_amount (ceiling_read m.table m.facts p a.state a.choice j r c.branch_at-branch.ensures z c.ceiling_after-amount.ensures) (ceiling_small m.table m.facts p c.requires a.state a.choice j) (omega arith) in
+    going_add u.more u.after worth (running u.more u.none (weighed worth bs)) c.loop-index.running bs j c.loop-index.invariant (omega (arith, c.loop-index-test.true, c.branch_count-index-end.ensures)) r.weight (to_z w64 (of_z w64 z)) (ap (λ (b : WholeBranch). b.weight) c.branch_at-branch.ensures) small
 
 pub loop-index-preserved : goal.loop-index-preserved
 loop-index-preserved g c =
@@ -47,12 +47,12 @@ loop-index-preserved g c =
     let m = g.M.Model in
     let u = g.U.Blend in
     let j = c.loop-index.index in
-    let r = c.branch-at-branch.result in
-    let z = c.ceiling-after-amount.result in
+    let r = c.branch_at-branch.result in
+    let z = c.ceiling_after-amount.result in
     let bs = choice_of m.table p a.state a.choice in
     let worth = ceiling_after p in
-    let read = to_z-of_z w64 z (record { sfits = c.ceiling-after-amount.type-inv }) ∙ ceiling_read m.table m.facts p a.state a.choice j r c.branch-at-branch.ensures z c.ceiling-after-amount.ensures in
-    going_more u.more u.after worth (running u.more u.none (weighed worth bs)) c.loop-index.running bs j c.loop-index.invariant (omega (arith, c.loop-index-test.true, c.branch-count-index-end.ensures)) u.adds (ceiling_small m.table m.facts p c.requires a.state a.choice j) c.add-running.result r.weight (to_z w64 (of_z w64 z)) c.add-running.ensures (ap (λ (b : WholeBranch). b.weight) c.branch-at-branch.ensures) read
+    let read = to_z-of_z w64 z (record { sfits = c.ceiling_after-amount.type_inv }) ∙ ceiling_read m.table m.facts p a.state a.choice j r c.branch_at-branch.ensures z c.ceiling_after-amount.ensures in
+    going_more u.more u.after worth (running u.more u.none (weighed worth bs)) c.loop-index.running bs j c.loop-index.invariant (omega (arith, c.loop-index-test.true, c.branch_count-index-end.ensures)) u.adds (ceiling_small m.table m.facts p c.requires a.state a.choice j) c.add-running.result r.weight (to_z w64 (of_z w64 z)) c.add-running.ensures (ap (λ (b : WholeBranch). b.weight) c.branch_at-branch.ensures) read
 
 pub finish-requires : goal.finish-requires
 finish-requires g c =
@@ -72,5 +72,5 @@ returns g c =
     let u = g.U.Blend in
     let bs = choice_of m.table p a.state a.choice in
     let worth = ceiling_after p in
-    let end = going_end u.more u.after worth (running u.more u.none (weighed worth bs)) c.loop-index.running bs c.loop-index.index c.loop-index.invariant (omega (arith, c.loop-index-test.false, c.branch-count-index-end.ensures)) in
-    to_z-of_z w64 c.finish.result (record { sfits = c.finish.type-inv }) ∙ c.finish.ensures ∙ ap (λ r. u.result r p.divisor) end ∙ u.means (weighed worth bs) p.divisor ∙ ap (u.mean (weighed worth bs)) c.requires.divided
+    let end = going_end u.more u.after worth (running u.more u.none (weighed worth bs)) c.loop-index.running bs c.loop-index.index c.loop-index.invariant (omega (arith, c.loop-index-test.false, c.branch_count-index-end.ensures)) in
+    to_z-of_z w64 c.finish.result (record { sfits = c.finish.type_inv }) ∙ c.finish.ensures ∙ ap (λ r. u.outcome r p.divisor) end ∙ u.means (weighed worth bs) p.divisor ∙ ap (u.mean (weighed worth bs)) c.requires.divided

@@ -8,12 +8,12 @@ use Rattle.sweep.specs.Steps.{plain}
 use Rattle.sweep.proofs.Branches.{usual_fair}
 use Rattle.sweep.proofs.Step.part_after.Goals as goal
 
-pub grains-onto-requires : goal.grains-onto-requires
-grains-onto-requires g c =
+pub grains_onto-requires : goal.grains_onto-requires
+grains_onto-requires g c =
     let p = c.args.self.now in
     let t = g.M.Model.table p.model.now in
     let b = c.args.branch in
     let i = c.args.part in
     let o = get_or p.objectives.now i no_objective in
     let worth = part_at p.next.now i b.next in
-    (passed_within worth worth max_worth refl (c.requires.ready.small.parts i b.next) (omega arith), passed_within c.reward-of-reward.result (earns o p.step (plain b)) max_earned c.reward-of-reward.ensures (omega (arith, earns_within t o p.step (plain b) (usual_fair t b c.requires.usual (omega arith)))) (omega arith))
+    (passed_within worth worth max_worth refl (c.requires.ready.small.parts i b.next) (omega arith), passed_within c.reward_of-reward.result (earns o p.step (plain b)) max_earned c.reward_of-reward.ensures (omega (arith, earns_within t o p.step (plain b) (usual_fair t b c.requires.usual (omega arith)))) (omega arith))

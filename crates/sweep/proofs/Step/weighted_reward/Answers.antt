@@ -8,4 +8,4 @@ pub returns : goal.returns
 returns g c =
     let p = c.args.self.now in
     let b = plain c.args.branch in
-    to_z-of_z w64 c.earned-by.result (record { sfits = c.earned-by.type-inv }) ∙ c.earned-by.ensures ∙ ap (λ (gains : List ℕ). earned gains b.rewards) c.requires.gained ∙ earned_is p.step b (omega arith) p.weights.now p.objectives.now
+    to_z-of_z w64 c.earned_by.result (record { sfits = c.earned_by.type_inv }) ∙ c.earned_by.ensures ∙ ap (λ (gains : List ℕ). earned gains b.rewards) c.requires.gained ∙ earned_is p.step b (omega arith) p.weights.now p.objectives.now
