@@ -4,7 +4,7 @@ ghost use Rattle.assessment.specs.declared.faults.LayerFault.TheVariants.{File, 
 ghost use Rattle.assessment.specs.Faults.{question_number};
 
 use fault::{Cause, Fault};
-use file_check::fault::FileFault;
+use file_check::faults::FileFault;
 use verdict::faults::{DocketFault, DraftFault};
 
 #[derive(Clone, Copy, PartialEq, Eq, Debug)]

@@ -6,7 +6,7 @@ use Rattle.std.proofs.lemmas.Bool.{cond_both, cond-false, lt-ltb, le-ltb, leb-tr
 use Rattle.std.proofs.lemmas.Bool.Decides.{nat_tests}
 use Rattle.mdp.specs.Limits.{max_choices, max_branches}
 use Rattle.mdp.specs.Table.{total_weight}
-use Rattle.file_check.specs.declared.fault.FileCause.TheVariants.{Field, Sum}
+use Rattle.file_check.specs.declared.faults.FileCause.TheVariants.{Field, Sum}
 use Rattle.file_check.specs.Check.{Checked, then_do, bad, max_file, within, word, header_of, header_at, pair_fits, pairs_at, branch_size, field_at, reward_fits, rewards_at, branch_at, branches_at, choice_after, choice_at, choices_at, block_end, blocks_at, check_result}
 use Rattle.file_check.specs.Decode.{branches_in, choice_in}
 use Rattle.file_check.specs.Places.{pair_place, choice_place, start_of}

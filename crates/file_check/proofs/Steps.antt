@@ -3,7 +3,7 @@ use Rattle.std.proofs.Common.{◌≡◌, ℕ, suc, ◌+◌, ◌-◌, ◌<◌, �
 use Rattle.std.proofs.lemmas.Bool.{and_parts, eqb-true, ltb-true, leb-true}
 use Rattle.std.proofs.lemmas.Result.{err_from_is_err_and}
 use Rattle.mdp.specs.Limits.{max_choices}
-use Rattle.file_check.specs.declared.fault.FileCause.TheVariants.{Pair, Field}
+use Rattle.file_check.specs.declared.faults.FileCause.TheVariants.{Pair, Field}
 use Rattle.file_check.specs.declared.check.Header.{Header}
 use Rattle.file_check.specs.Check.{FileFault, Checked, then_do, bad, word, field_at, reward_fits, rewards_at, branch_at, branches_at, branch_size, choice_at, choices_at, block_end, blocks_at, pairs_at, pair_fits}
 

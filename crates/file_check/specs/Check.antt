@@ -4,8 +4,8 @@ use Rattle.std.proofs.Common.{to_z}
 use Rattle.std.specs.Int.{w16}
 use Rattle.fault.specs.declared.Fault.{Fault}
 use Rattle.mdp.specs.Limits.{max_states, max_divisor, max_columns, max_choices, max_branches, max_reward}
-use Rattle.file_check.specs.declared.fault.FileCause.{FileCause}
-use Rattle.file_check.specs.declared.fault.FileCause.TheVariants.{Size, Header as BadHeader, Pair, Field, Sum}
+use Rattle.file_check.specs.declared.faults.FileCause.{FileCause}
+use Rattle.file_check.specs.declared.faults.FileCause.TheVariants.{Size, Header as BadHeader, Pair, Field, Sum}
 use Rattle.file_check.specs.declared.check.Header.{Header}
 
 abbrev pub max_file : ℕ

@@ -1,7 +1,7 @@
 -- The numbers of the causes. Assumes nothing.
 use Rattle.std.specs.Prelude.{ℕ}
-use Rattle.file_check.specs.declared.fault.FileCause.{FileCause}
-use Rattle.file_check.specs.declared.fault.FileCause.TheVariants.{Size, Header, Pair, Field, Sum}
+use Rattle.file_check.specs.declared.faults.FileCause.{FileCause}
+use Rattle.file_check.specs.declared.faults.FileCause.TheVariants.{Size, Header, Pair, Field, Sum}
 
 abbrev pub cause_number : FileCause → ℕ
 cause_number Size = 1

@@ -4,8 +4,8 @@ use Rattle.std.specs.List.{range_with_len, flat_map}
 use Rattle.std.specs.Option.{unwrap_or}
 use Rattle.mdp.specs.Limits.{max_states, max_divisor, max_columns, max_choices, max_branches}
 use Rattle.mdp.specs.Table.{total_weight}
-use Rattle.file_check.specs.declared.fault.FileCause.{FileCause}
-use Rattle.file_check.specs.declared.fault.FileCause.TheVariants.{Size, Header, Pair, Field, Sum}
+use Rattle.file_check.specs.declared.faults.FileCause.{FileCause}
+use Rattle.file_check.specs.declared.faults.FileCause.TheVariants.{Size, Header, Pair, Field, Sum}
 use Rattle.file_check.specs.Check.{FileFault, Checked, max_file, within, word, branch_size, reward_fits, block_end}
 use Rattle.file_check.specs.Decode.{choice_in}
 use Rattle.file_check.specs.Places.{pair_place, choice_place}

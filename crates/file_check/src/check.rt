@@ -4,7 +4,7 @@ ghost use Rattle.file_check.specs.Accepts.{Layout};
 ghost use Rattle.file_check.specs.Order.{FirstFault};
 ghost use Rattle.file_check.specs.Check.{bad, word, header_of, header_at, pair_fits, pairs_at, field_at, reward_fits, rewards_at, branch_at, branches_at, branch_size, choice_at, choices_at, block_end, blocks_at, check_result};
 
-use crate::fault::{FileCause, FileFault};
+use crate::faults::{FileCause, FileFault};
 use mdp::{MAX_BRANCHES, MAX_CHOICES, MAX_COLUMNS, MAX_DIVISOR, MAX_REWARD, MAX_STATES};
 
 const MAX_FILE: usize = 65535;

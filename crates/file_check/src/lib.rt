@@ -2,4 +2,4 @@
 #![tactic(auto)]
 
 pub mod check;
-pub mod fault;
+pub mod faults;

@@ -14,7 +14,7 @@ ghost use Rattle.file_check.proofs.Accepted.{file_facts};
 ghost use Rattle.file_model.specs.Index.{Counted, Indexed, Whole, blank_bytes, reward_or_none, rewards_in};
 
 use file_check::check::check;
-use file_check::fault::FileFault;
+use file_check::faults::FileFault;
 use mdp::{MAX_CHOICES, MAX_COLUMNS, MAX_STATES, Model, WholeBranch};
 
 // The number of a state's choices, and where they stand.

@@ -3,7 +3,7 @@
 
 #[cfg(test)]
 mod tests {
-    use file_check::fault::{FileCause, FileFault};
+    use file_check::faults::{FileCause, FileFault};
     use file_model::FileModel;
     use mdp::{Model, WholeBranch};
 

@@ -1,7 +1,7 @@
 use Rattle.std.proofs.Common.{◌≡◌, ℕ, ◌^◌, ◌<◌, ◌≤◌, List, [], ◌∷◌, length, codes, decimal, sym, refl, ap, ◌∙◌, subst, arith, length-append, rules}
 use Rattle.fault.specs.Texts.{fault_text}
-use Rattle.file_check.specs.declared.fault.FileCause.{FileCause}
-use Rattle.file_check.specs.declared.fault.FileCause.TheVariants.{Size, Header, Pair, Field, Sum}
+use Rattle.file_check.specs.declared.faults.FileCause.{FileCause}
+use Rattle.file_check.specs.declared.faults.FileCause.TheVariants.{Size, Header, Pair, Field, Sum}
 use Rattle.file_check.specs.Numbers.{cause_number}
 use Rattle.verdict.specs.declared.faults.DraftCause.{DraftCause}
 use Rattle.verdict.specs.declared.faults.DraftCause.TheVariants.{Objective, Full}
