@@ -5,6 +5,7 @@ use Rattle.std.proofs.lemmas.List.Elements.{All-from_get_or}
 use Rattle.std.proofs.lemmas.List.Sums.{prefix_len-le-length}
 use Rattle.std.proofs.lemmas.Bool.{le-leb, eq-eqb, and_from}
 use Rattle.std.proofs.lemmas.Bool.Decides.{nat_tests}
+use Rattle.std.proofs.lemmas.List.Elements.{All-head, All-tail}
 use Rattle.mdp.specs.Table.{Table}
 use Rattle.plans.specs.declared.Objective.{Objective}
 use Rattle.plans.specs.declared.Row.{Row}
@@ -25,7 +26,7 @@ use Rattle.docket.specs.Views.{view}
 
 all_passes : {X : Type 0} (p : X → Bool) (P : X → Type 0) → ((x : X) → P x → p x ≡ true) → (xs : List X) → All P xs → all_pass p xs ≡ true
 all_passes p P each [] h = refl
-all_passes p P each (x ∷ xs) h = and_from (p x) (all_pass p xs) (each x h.0) (all_passes p P each xs h.1)
+all_passes p P each (x ∷ xs) h = and_from (p x) (all_pass p xs) (each x (All-head P x xs h)) (all_passes p P each xs (All-tail P x xs h))
 
 -- its weights, the rows lent and the room are tested in turn
 abbrev or_else : {X : Type 0} → Option X → Option X → Option X

@@ -13,14 +13,14 @@ pub loop-high-init : goal.loop-high-init
 loop-high-init g c =
     (record { steps = 1000; enough = omega arith; leads = refl; two = c.requires.two; room = c.requires.room; rising = omega arith; small = omega arith }, refl)
 
-pub overflow-sub-high : goal.overflow-sub-high
-overflow-sub-high g c = omega (arith, c.loop-high.invariant.0.rising)
+pub overflow_sub-high : goal.overflow_sub-high
+overflow_sub-high g c = omega (arith, c.loop-high.invariant.0.rising)
 
-pub overflow-add-middle : goal.overflow-add-middle
-overflow-add-middle g c = omega (arith, c.loop-high.invariant.0.rising, c.loop-high.invariant.0.small)
+pub overflow_add-middle : goal.overflow_add-middle
+overflow_add-middle g c = omega (arith, c.loop-high.invariant.0.rising, c.loop-high.invariant.0.small)
 
-pub price-toward-requires : goal.price-toward-requires
-price-toward-requires g c =
+pub price_toward-requires : goal.price_toward-requires
+price_toward-requires g c =
     let l = c.loop-high in
     let (h, same) = l.invariant in
     let first = stage g.M.Model.table c.args.self.now c.args.rows.now in
@@ -28,7 +28,7 @@ price-toward-requires g c =
     record {
       lent = omega (arith, ap (λ m. length (g.M.Model.table m).states) same, c.requires.lent, l.auto.rows);
       two = h.two;
-      room = room_left first s l.low l.high h c.loop-high-test.true (sym c.if-is-open.ensures);
+      room = room_left first s l.low l.high h c.loop-high-test.true (sym c.if-is_open.ensures);
       small = omega (arith, h.rising, h.small);
     }
 
@@ -41,13 +41,13 @@ again table d e rs new first lo hi h wide is b answer x y z =
     subst (λ (s : Stage). Left first s (cond b lo (middle lo hi)) (cond b (middle lo hi) hi)) (sym (worked_by table d e rs new (toward (middle lo hi) ∷ []) x y z))
     (halved first (stage table d rs) lo hi h wide (sym is) b answer)
 
-pub loop-high-preserved-then-price-toward : goal.loop-high-preserved-then-price-toward
-loop-high-preserved-then-price-toward g c =
+pub loop-high-preserved-then-price_toward : goal.loop-high-preserved-then-price_toward
+loop-high-preserved-then-price_toward g c =
     let l = c.loop-high in
     let (h, same) = l.invariant in
-    let p = c.if-price-toward.ensures in (
-      again g.M.Model.table l.self c.price-toward.new.self l.rows c.price-toward.new.rows (stage g.M.Model.table c.args.self.now c.args.rows.now) l.low l.high h
-          c.loop-high-test.true c.if-is-open.ensures true p.answer p.model p.after p.rows,
+    let p = c.if-price_toward.ensures in (
+      again g.M.Model.table l.self c.price_toward.new.self l.rows c.price_toward.new.rows (stage g.M.Model.table c.args.self.now c.args.rows.now) l.low l.high h
+          c.loop-high-test.true c.if-is_open.ensures true p.answer p.model p.after p.rows,
       p.model ∙ same,
     )
 
@@ -55,18 +55,18 @@ pub loop-high-preserved : goal.loop-high-preserved
 loop-high-preserved g c =
     let l = c.loop-high in
     let (h, same) = l.invariant in
-    let p = c.if-price-toward.ensures in (
-      again g.M.Model.table l.self c.price-toward.new.self l.rows c.price-toward.new.rows (stage g.M.Model.table c.args.self.now c.args.rows.now) l.low l.high h
-          c.loop-high-test.true c.if-is-open.ensures false p.answer p.model p.after p.rows,
+    let p = c.if-price_toward.ensures in (
+      again g.M.Model.table l.self c.price_toward.new.self l.rows c.price_toward.new.rows (stage g.M.Model.table c.args.self.now c.args.rows.now) l.low l.high h
+          c.loop-high-test.true c.if-is_open.ensures false p.answer p.model p.after p.rows,
       p.model ∙ same,
     )
 
-pub returns-else-is-open : goal.returns-else-is-open
-returns-else-is-open g c =
+pub returns-else-is_open : goal.returns-else-is_open
+returns-else-is_open g c =
     let l = c.loop-high in
     let (h, same) = l.invariant in
     let s = stage g.M.Model.table l.self l.rows in
-    let e = ended (stage g.M.Model.table c.args.self.now c.args.rows.now) s l.low l.high h (and_right (ltb 1 (l.high - l.low)) (is_open s.docket.verdict) (sym c.if-is-open.ensures)) in
+    let e = ended (stage g.M.Model.table c.args.self.now c.args.rows.now) s l.low l.high h (and_right (ltb 1 (l.high - l.low)) (is_open s.docket.verdict) (sym c.if-is_open.ensures)) in
     record { after = ap (λ (x : Stage). x.docket) e; rows = ap (λ (x : Stage). x.rows) e; model = same }
 
 pub returns-after-loop-high : goal.returns-after-loop-high

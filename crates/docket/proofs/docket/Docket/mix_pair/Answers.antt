@@ -16,16 +16,16 @@ returns-in-Some g c =
     let met = first_passes (meets (view d)) (pairings (length (table_of d.table))) ss e in
     let turned = c.after-self.ensures ∙ (λ i. judged (verdict_of d.verdict) (sym met i) (Achieved ss)) in
     record {
-      after = (λ i. record { objectives = held d.objectives; table = table_of d.table; verdict = turned i }) ∙ sym (ap (fold mixed (view d)) (mixes_found (view d) (sym c.if-is-open.ensures) (Some ss) e));
+      after = (λ i. record { objectives = held d.objectives; table = table_of d.table; verdict = turned i }) ∙ sym (ap (fold mixed (view d)) (mixes_found (view d) (sym c.if-is_open.ensures) (Some ss) e));
       model = refl;
     }
 
-pub returns-in-default : goal.returns-in-default
-returns-in-default g c =
+pub returns-in_default : goal.returns-in_default
+returns-in_default g c =
     let d = c.args.self.now in
-    record { after = sym (ap (fold mixed (view d)) (mixes_found (view d) (sym c.if-is-open.ensures) None c.in-default.ensures)); model = refl }
+    record { after = sym (ap (fold mixed (view d)) (mixes_found (view d) (sym c.if-is_open.ensures) None c.in_default.ensures)); model = refl }
 
-pub returns-else-is-open : goal.returns-else-is-open
-returns-else-is-open g c =
+pub returns-else-is_open : goal.returns-else-is_open
+returns-else-is_open g c =
     let d = c.args.self.now in
-    record { after = sym (ap (fold mixed (view d)) (mixes_none (view d) (sym c.if-is-open.ensures))); model = refl }
+    record { after = sym (ap (fold mixed (view d)) (mixes_none (view d) (sym c.if-is_open.ensures))); model = refl }

@@ -12,23 +12,23 @@ use Rattle.docket.specs.Views.{view}
 use Rattle.docket.proofs.Pricing.{refusal_is}
 use Rattle.docket.proofs.docket.Docket.price.Goals as goal
 
-pub returns-in-err-row : goal.returns-in-err-row
-returns-in-err-row g c =
+pub returns-in_err-row : goal.returns-in_err-row
+returns-in_err-row g c =
     let d = c.args.self.now in
     let t = g.M.Model.table d.model in
     let ws = c.args.weights.now in
     let old = c.args.rows.now in
-    let kept = listed c.in-ok-weights.weights in
-    let f = numbered c.in-err-row.field-0.0 in
+    let kept = listed c.in_ok-weights.weights in
+    let f = numbered c.in_err-row.field-0.0 in
     let rs = table_of d.table in
-    let w = c.in-ok-weights.ensures in
+    let w = c.in_ok-weights.ensures in
     let same : kept ≡ ws = taken_value (weights_refusal (length (held d.objectives)) ws) kept ws w in
     let o = refusal t (view d) (price ws (length old)) in
     let e : o ≡ Some f =
     refusal_is t (view d) ws (length old) (Some f) (taken_none (weights_refusal (length (held d.objectives)) ws) kept ws w)
-    (taken_none (lent_refusal t (length old)) tt tt c.in-ok-check-lent.ensures)
-    (ap (room_refusal rs) (sym same) ∙ taken_some (room_refusal rs kept) f (number kept rs) c.in-err-row.ensures) in
-    let p = err_from_is_err_and c.from-residual-in-err-row.result c.from-residual-in-err-row.ensures.1 in
+    (taken_none (lent_refusal t (length old)) tt tt c.in_ok-check_lent.ensures)
+    (ap (room_refusal rs) (sym same) ∙ taken_some (room_refusal rs kept) f (number kept rs) c.in_err-row.ensures) in
+    let p = err_from_is_err_and c.from_residual-in_err-row.result c.from_residual-in_err-row.ensures.1 in
     record {
       answer = ap told_docket (p.1 ∙ ap Err p.2) ∙ sym (ap (λ v. answered v (price_of t (view d) ws)) e);
       after = sym (if_some o f (priced t (view d) ws) (view d) e);
@@ -36,21 +36,21 @@ returns-in-err-row g c =
       model = refl;
     }
 
-pub take-pricing-requires : goal.take-pricing-requires
-take-pricing-requires g c =
+pub take_pricing-requires : goal.take_pricing-requires
+take_pricing-requires g c =
     let d = c.args.self.now in
     let t = g.M.Model.table d.model in
     let ws = c.args.weights.now in
     let n = length (held d.objectives) in
     let lent = length c.args.rows.now in
-    let kept = listed c.in-ok-weights.weights in
+    let kept = listed c.in_ok-weights.weights in
     let rs = table_of d.table in
-    let w = c.in-ok-weights.ensures in
-    let r = c.in-ok-row.ensures in
+    let w = c.in_ok-weights.ensures in
+    let r = c.in_ok-row.ensures in
     record {
       taken =
           refusal_is t (view d) kept lent None (ap (weights_refusal n) (taken_value (weights_refusal n ws) kept ws w) ∙ taken_none (weights_refusal n ws) kept ws w)
-          (taken_none (lent_refusal t lent) tt tt c.in-ok-check-lent.ensures)
-          (taken_none (room_refusal rs kept) c.in-ok-row.row (number kept rs) r);
-      row = taken_value (room_refusal rs kept) c.in-ok-row.row (number kept rs) r;
+          (taken_none (lent_refusal t lent) tt tt c.in_ok-check_lent.ensures)
+          (taken_none (room_refusal rs kept) c.in_ok-row.row (number kept rs) r);
+      row = taken_value (room_refusal rs kept) c.in_ok-row.row (number kept rs) r;
     }

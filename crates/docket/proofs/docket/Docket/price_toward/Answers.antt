@@ -1,6 +1,7 @@
-use Rattle.std.proofs.Common.{◌≡◌, List, length, get_or, pos, None, sym, ap, ◌∙◌, inl, arith, w64, to_z, of_z, rules}
+use Rattle.std.proofs.Common.{◌∷◌, [], ◌≤◌, ◌-◌, ◌≡◌, List, length, get_or, pos, None, sym, ap, ◌∙◌, inl, arith, w64, rules}
 use lib.Signed.{le_z}
 use Rattle.std.proofs.lemmas.Int.{to_z-of_z}
+use Rattle.std.proofs.lemmas.List.Elements.{All-nil, All-cons}
 use Rattle.plans.specs.declared.Objective.{Objective}
 use Rattle.plans.specs.Plans.{no_objective}
 use Rattle.truth.specs.Dockets.{priced, toward}
@@ -25,9 +26,9 @@ returns g c =
     let o = refusal t (view d) (price ws (length old)) in
     let none : o ≡ None =
     ((taken_exactly t (view d)).price_if ws (length old)).1
-    (record { each = sym c.requires.two; small = (c.requires.small, (omega arith, tt)); some = omega (arith, c.requires.small) }, c.requires.lent, inl c.requires.room) in
+    (record { each = sym c.requires.two; small = All-cons (λ w. w ≤ 1000) c.args.first ((1000 - c.args.first) ∷ []) c.requires.small (All-cons (λ w. w ≤ 1000) (1000 - c.args.first) [] (omega arith) (All-nil (λ w. w ≤ 1000))); some = omega (arith, c.requires.small) }, c.requires.lent, inl c.requires.room) in
     let price_is = taken_value o c.unwrap-price.result (price_of t (view d) ws) (sym (ap told_docket c.unwrap-price.ensures) ∙ p.answer) in
-    let want = to_z-of_z w64 (get_or c.as-slice.result.now 0 no_objective).target (search rules) ∙ ap (λ (xs : List Objective). (get_or xs 0 no_objective).target) c.as-slice.ensures in
+    let want = to_z-of_z w64 (get_or c.as_slice.result.now 0 no_objective).target (search rules) ∙ ap (λ (xs : List Objective). (get_or xs 0 no_objective).target) c.as_slice.ensures in
     let got = to_z-of_z w64 (get_or c.unwrap-price.result.point 0 (pos 0)) (search rules) ∙ ap (λ (q : Price). get_or q.point 0 (pos 0)) price_is in
     record {
       answer = λ i. le_z (want i) (got i);
