@@ -1,5 +1,5 @@
 -- What the questions answer of the table that a file holds, by where its choices stand.
-use Rattle.std.proofs.Common.{◌≡◌, ℕ, zero, suc, ◌+◌, ◌*◌, ◌<◌, ◌≤◌, Bool, true, false, cond, ltb, List, [], ◌∷◌, map, length, get_or, take, ℤ, pos, Some, None, All, Option, unwrap_or, sym, refl, ap, ◌∙◌, subst, ⊎_elim, mul-le-mul_right, suc-mul, zero-mul, arith, get_or-take}
+use Rattle.std.proofs.Common.{◌≡◌, ℕ, zero, suc, ◌+◌, ◌*◌, ◌<◌, ◌≤◌, true, false, cond, ltb, List, [], ◌∷◌, map, length, get_or, take, ℤ, pos, Some, None, All, unwrap_or, sym, refl, ap, ◌∙◌, ⊎_elim, mul-le-mul_right, suc-mul, zero-mul, arith, get_or-take}
 use Rattle.std.proofs.lemmas.List.{length-map}
 use Rattle.std.proofs.lemmas.List.Elements.{All-get_or}
 use Rattle.std.specs.Option.{option_map}
@@ -8,7 +8,7 @@ use Rattle.std.proofs.lemmas.Option.{slice_get_past, slice_get-get_or}
 use Rattle.std.proofs.lemmas.Bool.{cases_lt, cond-true, cond-false, lt-ltb, le-ltb}
 use Rattle.mdp.specs.Limits.{max_choices}
 use Rattle.mdp.specs.declared.WholeBranch.{WholeBranch}
-use Rattle.mdp.specs.Table.{Branch, Choice, State, Table}
+use Rattle.mdp.specs.Table.{Branch, Table}
 use Rattle.mdp.specs.Questions.{bind, state_of, choice_of, branch_of, next_of, reward_of, reward_or_zero, whole_branch}
 use Rattle.file_check.specs.Check.{word, branch_size, choice_after, block_end}
 use Rattle.file_check.specs.Decode.{steps, reward_in, branch_in, choice_in, choices_in, state_in, decode}

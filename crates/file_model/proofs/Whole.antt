@@ -1,13 +1,12 @@
 -- An accepted file is whole, and so is the blank one.
-use Rattle.std.proofs.Common.{◌≡◌, ℕ, zero, suc, ◌≤◌, Bool, true, false, cond, ◌&&◌, ltb, List, [], ◌∷◌, length, is_ok, Some, None, Ok, Err, sym, refl, ap, ◌∙◌, subst, arith, lit≤}
-use Rattle.std.specs.Result.{result_err}
+use Rattle.std.proofs.Common.{◌≡◌, ℕ, zero, suc, ◌≤◌, Bool, true, false, ◌&&◌, ltb, List, [], ◌∷◌, length, is_ok, Err, sym, refl, ap, ◌∙◌, subst, arith, lit≤}
 use Rattle.std.proofs.lemmas.Bool.{and_parts, ltb-true, cond-true, cond-false}
 use Rattle.mdp.specs.Table.{Table}
 use Rattle.mdp.specs.Limits.{max_states}
-use Rattle.file_check.specs.Check.{word, FileFault, Checked, check_result}
+use Rattle.file_check.specs.Check.{word, FileFault, check_result}
 use Rattle.file_check.specs.Decode.{decode}
 use Rattle.file_check.specs.Accepts.{accepted, Bytes, FileOf, blank, read_table}
-use Rattle.file_check.proofs.Accepted.{accepted_passed, ok_accepted, layout}
+use Rattle.file_check.proofs.Accepted.{accepted_passed, layout}
 use Rattle.file_check.proofs.Inside.{block_inside}
 use Rattle.file_model.specs.Index.{Whole, blank_bytes}
 

@@ -15,7 +15,7 @@ ghost use Rattle.file_model.specs.Index.{Counted, Indexed, Whole, blank_bytes, r
 
 use file_check::check::check;
 use file_check::fault::FileFault;
-use mdp::{MAX_CHOICES, MAX_COLUMNS, MAX_STATES, Model, WholeBranch};
+use mdp::{MAX_CHOICES, MAX_COLUMNS, MAX_STATES, Model as MdpModel, WholeBranch};
 
 // The number of a state's choices, and where they stand.
 #[derive(Clone, Copy)]
@@ -133,7 +133,7 @@ impl<'a> FileModel<'a> {
         if state >= word_at(self.bytes, 0) as usize {
             return None;
         }
-        let index = &self.index[state];
+        let index = self.index[state];
         if choice >= index.count as usize {
             return None;
         }
@@ -189,7 +189,7 @@ impl<'a> FileModel<'a> {
     }
 }
 
-pub impl Model for FileModel<'_> as FileModelModel {
+impl MdpModel for FileModel<'_> {
     ghost table = { λ m. decode m.bytes.now };
 
     ghost facts = { λ m. file_facts m.bytes.now m.sound m.typed };

@@ -1,5 +1,5 @@
 -- What a summary is, and how it is written. Assumes nothing.
-use Rattle.std.specs.Prelude.{ℕ, List, ◌∷◌, ◌++◌, length, codes, decimal}
+use Rattle.std.specs.Prelude.{ℕ, List, ◌++◌, length, codes, decimal}
 use Rattle.mdp.specs.Table.{Table}
 use Rattle.summary.specs.declared.Summary.{Summary}
 

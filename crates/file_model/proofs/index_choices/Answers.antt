@@ -18,7 +18,7 @@ returns-then-at-end c =
 
 pub loop-i-preserved : goal.loop-i-preserved
 loop-i-preserved c =
-    let after : c.loop-i.at + (1 + get_or c.args.bytes.now c.loop-i.at 0 * c.branch-size.result) ≡ choice_after c.args.bytes.now c.args.columns c.loop-i.at = rw c.branch-size.ensures (omega arith) in (
+    let after : c.loop-i.at + (1 + get_or c.args.bytes.now c.loop-i.at 0 * c.branch_size.result) ≡ choice_after c.args.bytes.now c.args.columns c.loop-i.at = rw c.branch_size.ensures (omega arith) in (
       simp length-set c.loop-i.invariant.0,
       starts_more c.args.bytes.now _ _ _ _ _ c.loop-i-test.true c.loop-i.starts _ (omega arith) c.if-at-end.false after c.loop-i.invariant.1,
     )

@@ -16,9 +16,9 @@ loop-state-preserved c =
     let xs = c.args.bytes.now in
     let s = c.loop-state.state in
     let lt : s < length c.loop-state.index = omega arith in
-    let from : c.word-at-from.result ≡ word xs (pair_place s) = c.word-at-from.ensures in
-    let size : c.word-at.result ≡ word xs (pair_place s + 2) = c.word-at.ensures in (
+    let from : c.word_at-from.result ≡ word xs (pair_place s) = c.word_at-from.ensures in
+    let size : c.word_at.result ≡ word xs (pair_place s + 2) = c.word_at.ensures in (
       simp length-set c.loop-state.invariant.0,
-      one_more (λ j i. i.count ≡ length (choice_starts xs j)) c.loop-state.index s c.index-choices.result lt c.loop-state.invariant.1 (rw (← from, ← size) c.index-choices.ensures.count),
-      one_more (λ j i. take i.count i.starts ≡ choice_starts xs j) c.loop-state.index s c.index-choices.result lt c.loop-state.invariant.2 (rw (← from, ← size) c.index-choices.ensures.starts),
+      one_more (λ j i. i.count ≡ length (choice_starts xs j)) c.loop-state.index s c.index_choices.result lt c.loop-state.invariant.1 (rw (← from, ← size) c.index_choices.ensures.count),
+      one_more (λ j i. take i.count i.starts ≡ choice_starts xs j) c.loop-state.index s c.index_choices.result lt c.loop-state.invariant.2 (rw (← from, ← size) c.index_choices.ensures.starts),
     )

@@ -2,10 +2,10 @@ use Rattle.std.proofs.Common.{◌<◌, get_or, arith}
 use Rattle.file_check.specs.Check.{word}
 use Rattle.file_model.specs.Index.{no_choices}
 use Rattle.file_model.proofs.Asked.{states_outside, count_is}
-use Rattle.file_model.proofs.FileModelModel.choices.Goals as goal
+use Rattle.file_model.proofs.FileModelMdpModel.choices.Goals as goal
 
-pub returns-then-state-word-at : goal.returns-then-state-word-at
-returns-then-state-word-at c = states_outside c.args.self.now.bytes.now c.args.state (omega arith)
+pub returns-then-state-word_at : goal.returns-then-state-word_at
+returns-then-state-word_at c = states_outside c.args.self.now.bytes.now c.args.state (omega arith)
 
 pub returns : goal.returns
 returns c =

@@ -1,6 +1,0 @@
-use Rattle.std.proofs.Common.{◌∙◌}
-use Rattle.file_model.proofs.Asked.{states_count}
-use Rattle.file_model.proofs.FileModelModel.states.Goals as goal
-
-pub returns : goal.returns
-returns c = c.word-at.ensures ∙ states_count c.args.self.now.bytes.now
