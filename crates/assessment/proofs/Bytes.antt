@@ -1,7 +1,7 @@
 -- Numbers in bytes, and the bytes of a question. Assumes nothing.
 use Rattle.std.proofs.Common.{◌≡◌, ℕ, zero, suc, ◌+◌, ◌*◌, ◌/◌, ◌%◌, ◌^◌, ◌<◌, ◌≤◌, List, [], ◌∷◌, ◌++◌, length, get_or, take, drop, ℤ, pos, negsuc, neg_ℤ, ◌≤ℤ◌, ◌<ℤ◌, All, refl, ap, ◌∙◌, pow-suc, arith, length-drop, drop-cons, take-add, w64, SFits, to_z, of_z}
 use mir.Facts.{Fits-of_z}
-use Rattle.std.proofs.lemmas.List.Elements.{All-take, All-drop}
+use Rattle.std.proofs.lemmas.List.Elements.{All-head, All-tail, All-take, All-drop}
 use Rattle.std.proofs.lemmas.List.{get_or-drop, drop-drop, length-take-le, take-append-drop, take_all, append-nil}
 use Rattle.std.proofs.lemmas.Int.{ints, to_z-of_z, of_z-to_z}
 use Rattle.plans.specs.declared.Objective.{Objective}
@@ -45,16 +45,18 @@ Bytes xs = All (λ b. b < 256) xs
 -- from bytes to their number, and back
 number_below : (n : ℕ) (xs : List ℕ) → length xs ≡ n → Bytes xs → number_of xs < 256 ^ n
 number_below zero [] e h = omega arith
-number_below (suc n) (x ∷ xs) e (b, h) = omega (arith, number_below n xs (omega arith) h, pow-suc 256 n)
+number_below (suc n) (x ∷ xs) e h =
+    omega (arith, All-head (λ b. b < 256) x xs h, number_below n xs (omega arith) (All-tail (λ b. b < 256) x xs h), pow-suc 256 n)
 number_below zero (x ∷ xs) e h = absurd (omega arith)
 number_below (suc n) [] e h = absurd (omega arith)
 
 bytes_of_number : (n : ℕ) (xs : List ℕ) → length xs ≡ n → Bytes xs → low_first n (number_of xs) ≡ xs
 bytes_of_number zero [] e h = refl
-bytes_of_number (suc n) (x ∷ xs) e (b, h) =
+bytes_of_number (suc n) (x ∷ xs) e h =
+    let b : x < 256 = All-head (λ b. b < 256) x xs h in
     let low : (x + 256 * number_of xs) % 256 ≡ x = omega arith in
     let high : (x + 256 * number_of xs) / 256 ≡ number_of xs = omega arith in
-    rw (low, high) (ap (λ bs. x ∷ bs) (bytes_of_number n xs (omega arith) h))
+    rw (low, high) (ap (λ bs. x ∷ bs) (bytes_of_number n xs (omega arith) (All-tail (λ b. b < 256) x xs h)))
 bytes_of_number zero (x ∷ xs) e h = absurd (omega arith)
 bytes_of_number (suc n) [] e h = absurd (omega arith)
 
@@ -70,7 +72,8 @@ part xs k n h = length-take-le n (drop k xs) (omega (arith, length-drop k xs))
 
 objective_back : (xs : List ℕ) → objective_size ≤ length xs → Bytes xs → objective_bytes (objective_at xs 0) ≡ take objective_size xs
 objective_back [] l h = absurd (omega arith)
-objective_back (x ∷ xs) l (b, h) =
+objective_back (x ∷ xs) l all =
+    let h = All-tail (λ b. b < 256) x xs all in
     let bytes : (k n : ℕ) → Bytes (take n (drop k xs)) = λ k n. All-take (λ b. b < 256) n (drop k xs) (All-drop (λ b. b < 256) k xs h) in
     let bound : low_first 2 (number_of (take 2 xs)) ≡ take 2 xs = bytes_of_number 2 (take 2 xs) (part xs 0 2 (omega arith)) (bytes 0 2) in
     let small : number_of (take 8 (drop 2 xs)) < 2 ^ 64 = number_below 8 (take 8 (drop 2 xs)) (part xs 2 8 (omega arith)) (bytes 2 8) in

@@ -4,7 +4,7 @@ use borrow.Author.Differences.{ints}
 use Rattle.std.specs.List.{range_with_len, flat_map}
 use Rattle.std.specs.Fmt.{signed_decimal}
 use Rattle.std.proofs.lemmas.Fmt.{length-decimal-le}
-use Rattle.std.proofs.lemmas.List.Elements.{All-weaker}
+use Rattle.std.proofs.lemmas.List.Elements.{All-nil, All-cons, All-head, All-tail, All-weaker}
 use Rattle.std.proofs.lemmas.Bool.{cond_both, cases_eq}
 use Rattle.std.proofs.lemmas.Bool.Decides.{nat_tests}
 use Rattle.mdp.specs.Table.{Table, Facts}
@@ -37,7 +37,10 @@ pub record Two (ws : List ℕ) : Type 0 where
 weights_short : (ws : List ℕ) → Two ws → length (line (spaced ws)) ≤ 10
 weights_short [] t = absurd (omega (arith, t.two))
 weights_short (a ∷ []) t = absurd (omega (arith, t.two))
-weights_short (a ∷ b ∷ []) t = let p = short_number a t.small.0 in let q = short_number b t.small.1.0 in simp length-append (omega arith)
+weights_short (a ∷ b ∷ []) t =
+    let p = short_number a (All-head (λ w. w ≤ 1000) a (b ∷ []) t.small) in
+    let q = short_number b (All-head (λ w. w ≤ 1000) b [] (All-tail (λ w. w ≤ 1000) a (b ∷ []) t.small)) in
+    simp length-append (omega arith)
 weights_short (a ∷ b ∷ c ∷ ws) t = absurd (omega (arith, t.two))
 
 share_short : (s : ℕ) (ws : List ℕ) → s ≤ 1000 → Two ws → length (line (spaced (s ∷ ws))) ≤ 15
@@ -66,8 +69,9 @@ module _ (r s a : ℕ) (rising : r < s) (small : a ≤ 1000) where
   pair_short : (m c : ℕ) (rs : List Priced) → All (λ p. Two p.weights) rs → length (flat_map share_line (backed (map share_at (range_with_len c m)) rs)) ≤ 15 * left c
   pair_short zero c rs h = omega arith
   pair_short (suc m) c [] h = omega arith
-  pair_short (suc m) c (p ∷ rs) (w, h) =
-      let rest = pair_short m (c + 1) rs h in
+  pair_short (suc m) c (p ∷ rs) h =
+      let w : Two p.weights = All-head (λ (p : Priced). Two p.weights) p rs h in
+      let rest = pair_short m (c + 1) rs (All-tail (λ (p : Priced). Two p.weights) p rs h) in
       let row : Candidate = record { share = share_at c; weights = p.weights } in
       let others = backed (map share_at (range_with_len (c + 1) m)) rs in
       cond_both (ltb 0 (share_at c)) (row ∷ others) others (λ cs. length (flat_map share_line cs) ≤ 15 * left c)
@@ -87,7 +91,9 @@ target_small t o a = let l = a.low in let h = a.high in omega (arith, ints)
 sum_short : (t : Table) (os : List Objective) → length os ≡ 2 → All (Accepted t) os → (a : ℕ) → a ≤ 1000 → nat_abs (target_sum (toward a) os) ≤ 2 ^ 63
 sum_short t [] two h a small = absurd (omega arith)
 sum_short t (o ∷ []) two h a small = absurd (omega arith)
-sum_short t (o ∷ p ∷ []) two (f, (g, h)) a small =
+sum_short t (o ∷ p ∷ []) two h a small =
+    let f = All-head (Accepted t) o (p ∷ []) h in
+    let g = All-head (Accepted t) p [] (All-tail (Accepted t) o (p ∷ []) h) in
     let x = a · o.target in
     let y = (1000 - a) · p.target in
     omega (
@@ -113,8 +119,8 @@ refutation_short ws c s rs t hc hs =
     )
 
 all_last : {X : Type 0} (P : X → Type 0) (front : List X) (x : X) → All P (front ++ (x ∷ [])) → P x
-all_last P [] x h = h.0
-all_last P (y ∷ front) x h = all_last P front x h.1
+all_last P [] x h = All-head P x [] h
+all_last P (y ∷ front) x h = all_last P front x (All-tail P y (front ++ (x ∷ [])) h)
 
 -- a mix leaves the rows
 rows_mixed : (sss : List (List ℕ)) (d : Docket) → (fold mixed d sss).table ≡ d.table
@@ -145,7 +151,7 @@ module _ (t : Table) (facts : Facts t) (d : Docket) (orderly : Orderly t d) (len
       let (front, prices, not-below, is-ceiling, is_sum, below) = subst (SettledAs t d) e (settle_verdict t d) in
       let (a, small, is) = all_last (Toward t) front ws (subst (All (Toward t)) prices (prices_toward t d)) in
       let os = d.objectives in
-      let ws-two : Two ws = subst Two (sym is) (record { two = refl; small = (small, (omega arith, tt)) }) in
+      let ws-two : Two ws = subst Two (sym is) (record { two = refl; small = All-cons (λ w. w ≤ 1000) a ((1000 - a) ∷ []) small (All-cons (λ w. w ≤ 1000) (1000 - a) [] (omega arith) (All-nil (λ w. w ≤ 1000))) }) in
       let c-small = subst (λ z. nat_abs z ≤ 2 ^ 63) (sym is-ceiling) (ceiling_short t facts os orderly.posable ws ws-two.small) in
       let s-small = subst (λ z. nat_abs z ≤ 2 ^ 63) (sym (is_sum ∙ ap (λ ws. target_sum ws os) is)) (sum_short t os two orderly.posable.each a small) in
       refutation_short ws c s (settled t d).table ws-two c-small s-small

@@ -32,51 +32,51 @@ returns-in-Some c =
       truth = shows_true file q lent (model_facts (goal.at.returns-in-Some c).After-read-model);
     }
 
-pub returns-in-err-objectives : goal.returns-in-err-objectives
-returns-in-err-objectives c =
+pub returns-in_err-objectives : goal.returns-in_err-objectives
+returns-in_err-objectives c =
     let file = c.args.model.now in
     let q = c.args.question.now in
     let lent = length c.args.rows.now in
     let room = length c.args.print.now in
-    let good = c.in-default.ensures ∙ c.read-model.ensures.fault in
-    let (y, is, same) = err_from_is_err_and c.from-residual.result c.from-residual.ensures.1 in
-    let early = answers_some (early_fault q room) _ (asked q) c.in-err-objectives.ensures in
+    let good = c.in_default.ensures ∙ c.read-model.ensures.fault in
+    let (y, is, same) = err_from_is_err_and c.from_residual.result c.from_residual.ensures.1 in
+    let early = answers_some (early_fault q room) _ (asked q) c.in_err-objectives.ensures in
     let fault = by_question file q lent room good _ early ∙ ap (λ f. Some (told_fault f)) (sym same) in
     record {
-      answer = refused_told _ c.from-residual.result y _ is fault;
+      answer = refused_told _ c.from_residual.result y _ is fault;
       rows = refused_stays _ (told_fault y) _ _ fault;
       print = refused_stays _ (told_fault y) _ _ fault;
-      truth = shows_true file q lent (model_facts (goal.at.returns-in-err-objectives c).After-read-model);
+      truth = shows_true file q lent (model_facts (goal.at.returns-in_err-objectives c).After-read-model);
     }
 
-pub returns-in-err-text : goal.returns-in-err-text
-returns-in-err-text c =
+pub returns-in_err-text : goal.returns-in_err-text
+returns-in_err-text c =
     let file = c.args.model.now in
     let q = c.args.question.now in
     let old = c.args.rows.now in
     let lent = length old in
     let room = length c.args.print.now in
-    let good = c.in-default.ensures ∙ c.read-model.ensures.fault in
+    let good = c.in_default.ensures ∙ c.read-model.ensures.fault in
     let t = decode c.read-model.result.bytes.now in
     let m = c.read-model.ensures.model in
-    let os = c.in-ok-objectives.objectives in
-    let early = answers_none (early_fault q room) os (asked q) c.in-ok-objectives.ensures in
-    let two = answers_value (early_fault q room) os (asked q) c.in-ok-objectives.ensures in
-    let (y, is, same) = err_from_is_err_and c.from-residual-in-err-text.result c.from-residual-in-err-text.ensures.1 in
-    let told = pair_answer file q lent room good early t os m two (Err (told_fault c.in-err-text.field-0.0)) c.in-err-text.ensures.answer in
+    let os = c.in_ok-objectives.objectives in
+    let early = answers_none (early_fault q room) os (asked q) c.in_ok-objectives.ensures in
+    let two = answers_value (early_fault q room) os (asked q) c.in_ok-objectives.ensures in
+    let (y, is, same) = err_from_is_err_and c.from_residual-in_err-text.result c.from_residual-in_err-text.ensures.1 in
+    let told = pair_answer file q lent room good early t os m two (Err (told_fault c.in_err-text.field-0.0)) c.in_err-text.ensures.answer in
     let fault = answers_some _ _ _ told ∙ ap (λ f. Some (told_fault f)) (sym same) in
     record {
-      answer = refused_told _ c.from-residual-in-err-text.result y _ is fault;
-      rows = pair_rows file q lent room good early t os m two old c.settle-pair.new.rows c.settle-pair.ensures.rows;
+      answer = refused_told _ c.from_residual-in_err-text.result y _ is fault;
+      rows = pair_rows file q lent room good early t os m two old c.settle_pair.new.rows c.settle_pair.ensures.rows;
       print = refused_stays _ (told_fault y) _ _ fault;
-      truth = shows_true file q lent (model_facts (goal.at.returns-in-err-text c).After-read-model);
+      truth = shows_true file q lent (model_facts (goal.at.returns-in_err-text c).After-read-model);
     }
 
 pub put-requires : goal.put-requires
 put-requires c =
     let q = c.args.question.now in
     let room = length c.args.print.now in
-    wide_enough q room (answers_none (early_fault q room) c.in-ok-objectives.objectives (asked q) c.in-ok-objectives.ensures)
+    wide_enough q room (answers_none (early_fault q room) c.in_ok-objectives.objectives (asked q) c.in_ok-objectives.ensures)
 
 pub returns : goal.returns
 returns c =
@@ -86,20 +86,20 @@ returns c =
     let print = c.args.print.now in
     let lent = length old in
     let room = length print in
-    let good = c.in-default.ensures ∙ c.read-model.ensures.fault in
+    let good = c.in_default.ensures ∙ c.read-model.ensures.fault in
     let t = decode c.read-model.result.bytes.now in
     let m = c.read-model.ensures.model in
-    let os = c.in-ok-objectives.objectives in
-    let early = answers_none (early_fault q room) os (asked q) c.in-ok-objectives.ensures in
-    let two = answers_value (early_fault q room) os (asked q) c.in-ok-objectives.ensures in
+    let os = c.in_ok-objectives.objectives in
+    let early = answers_none (early_fault q room) os (asked q) c.in_ok-objectives.ensures in
+    let two = answers_value (early_fault q room) os (asked q) c.in_ok-objectives.ensures in
     let f = assess_fault file q lent room in
     let lines = listing (assessed file q lent) in
-    let told = pair_answer file q lent room good early t os m two (Ok (text_of c.in-ok-text.text)) c.in-ok-text.ensures.answer in
+    let told = pair_answer file q lent room good early t os m two (Ok (text_of c.in_ok-text.text)) c.in_ok-text.ensures.answer in
     let none = answers_none f _ lines told in
     let is = answers_value f _ lines told in
     record {
       answer = ap (λ n. Ok n) (c.put.ensures.answer ∙ ap length is) ∙ ap (λ x. unless x (length lines)) (sym none);
-      rows = pair_rows file q lent room good early t os m two old c.settle-pair.new.rows c.settle-pair.ensures.rows;
+      rows = pair_rows file q lent room good early t os m two old c.settle_pair.new.rows c.settle_pair.ensures.rows;
       print = c.put.ensures.print ∙ ap (λ l. onto l print) is ∙ ap (λ x. if_none x (onto lines print) print) (sym none);
       truth = shows_true file q lent (model_facts (goal.at.returns c).After-read-model);
     }

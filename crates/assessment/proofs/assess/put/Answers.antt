@@ -8,4 +8,4 @@ unwrap-requires c =
     let t = c.args.text.now in
     let l = length-take t.len t.bytes in
     let fits = le-leb (length (text_of t)) (length c.args.print.now) (omega (arith, t.within, c.requires)) in
-    ap is_some c.write-to.ensures.answer ∙ rw fits
+    ap is_some c.write_to.ensures.answer ∙ rw fits

@@ -70,7 +70,7 @@ line_is t0 t1 t2 t3 t4 t5 at f o s e0 e1 e2 e3 e4 e5 =
 
 pub returns : goal.returns
 returns c =
-    let t3 = text_of c.push-str-2.new.self in
+    let t3 = text_of c.push_str-2.new.self in
     let t4 = text_of c.match-fault.text in
     let at = c.args.fault.offset in
     let f = told_fault c.args.fault in
@@ -79,16 +79,16 @@ returns c =
     elim c.match-fault.branch [
       | in-File w ↦
           subst so (sym w.in-File.is)
-          (record { offset = refl; layer = omega arith; number = small_file w.in-File.fault.cause; place = search rules }, ap text_of w.text-is ∙ w.push-fault.ensures)
+          (record { offset = refl; layer = omega arith; number = small_file w.in-File.fault.cause; place = search rules }, ap text_of w.text-is ∙ w.push_fault.ensures)
       | in-Draft w ↦
           subst so (sym w.in-Draft.is)
-          (record { offset = refl; layer = omega arith; number = small_draft w.in-Draft.fault.cause; place = search rules }, ap text_of w.text-is ∙ w.push-fault-in-Draft.ensures)
+          (record { offset = refl; layer = omega arith; number = small_draft w.in-Draft.fault.cause; place = search rules }, ap text_of w.text-is ∙ w.push_fault-in-Draft.ensures)
       | in-Docket w ↦
           subst so (sym w.in-Docket.is)
-          (record { offset = refl; layer = omega arith; number = small_docket w.in-Docket.fault.cause; place = search rules }, ap text_of w.text-is ∙ w.push-fault-in-Docket.ensures)
+          (record { offset = refl; layer = omega arith; number = small_docket w.in-Docket.fault.cause; place = search rules }, ap text_of w.text-is ∙ w.push_fault-in-Docket.ensures)
       | in-Question w ↦
           subst so (sym w.in-Question.is)
-          (record { offset = refl; layer = omega arith; number = small_question w.in-Question.fault.cause; place = search rules }, ap text_of w.text-is ∙ w.push-fault-in-Question.ensures)
+          (record { offset = refl; layer = omega arith; number = small_question w.in-Question.fault.cause; place = search rules }, ap text_of w.text-is ∙ w.push_fault-in-Question.ensures)
     ] in
-    line_is (text_of c.new-text.result) (text_of c.push-str.new.self) (text_of c.push-decimal.new.self) t3 t4 (text_of c.push-str-3.new.self) at f (search rules) way.0
-    c.new-text.ensures c.push-str.ensures c.push-decimal.ensures c.push-str-2.ensures way.1 c.push-str-3.ensures
+    line_is (text_of c.new-text.result) (text_of c.push_str.new.self) (text_of c.push_decimal.new.self) t3 t4 (text_of c.push_str-3.new.self) at f (search rules) way.0
+    c.new-text.ensures c.push_str.ensures c.push_decimal.ensures c.push_str-2.ensures way.1 c.push_str-3.ensures

@@ -26,16 +26,16 @@ line_end t u v w n ns i h f inv e l =
 pub loop-number-preserved : goal.loop-number-preserved
 loop-number-preserved c =
     let t = text_of c.loop-number.text in
-    let u = text_of c.push-str.new.self in
-    let v = text_of c.push-decimal-in-loop-number.new.self in
-    let d = c.push-decimal-in-loop-number.ensures ∙ ap (λ n. followed_by u (decimal n)) c.from-in-loop-number.ensures in
-    number_more t u v _ c.args.rest.now c.loop-number.number-index (omega arith) c.loop-number.invariant c.push-str.ensures d
+    let u = text_of c.push_str.new.self in
+    let v = text_of c.push_decimal-in-loop-number.new.self in
+    let d = c.push_decimal-in-loop-number.ensures ∙ ap (λ n. followed_by u (decimal n)) c.from-in-loop-number.ensures in
+    number_more t u v _ c.args.rest.now c.loop-number.number-index (omega arith) c.loop-number.invariant c.push_str.ensures d
 
 pub returns : goal.returns
 returns c =
     let t = text_of c.args.text.now in
-    let u = text_of c.push-decimal.new.self in
+    let u = text_of c.push_decimal.new.self in
     let v = text_of c.loop-number.text in
-    let w = text_of c.push-str-2.new.self in
-    let d = c.push-decimal.ensures ∙ ap (λ n. followed_by t (decimal n)) c.from.ensures in
-    line_end t u v w c.args.first c.args.rest.now c.loop-number.number-index (omega arith) d c.loop-number.invariant (then_none c.loop-number.text) c.push-str-2.ensures
+    let w = text_of c.push_str-2.new.self in
+    let d = c.push_decimal.ensures ∙ ap (λ n. followed_by t (decimal n)) c.from.ensures in
+    line_end t u v w c.args.first c.args.rest.now c.loop-number.number-index (omega arith) d c.loop-number.invariant (then_none c.loop-number.text) c.push_str-2.ensures

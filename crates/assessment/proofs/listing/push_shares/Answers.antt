@@ -49,8 +49,8 @@ loop-row-preserved c =
       | then-row-rows w ↦
           let s = get_or ss i 0 in
           let at = sym (get_or-map row_of rows i w.index-rows-row.result no_priced (omega arith)) in
-          let ws = w.as-slice.ensures ∙ ap (λ (p : Priced). p.weights) at in
-          let put = w.push-share.ensures ∙ ap (λ ns. cond (ltb 0 s) (followed_by t (line (spaced (s ∷ ns)))) t) ws in
+          let ws = w.as_slice.ensures ∙ ap (λ (p : Priced). p.weights) at in
+          let put = w.push_share.ensures ∙ ap (λ ns. cond (ltb 0 s) (followed_by t (line (spaced (s ∷ ns)))) t) ws in
           ap (λ x. followed_by (text_of x) rest) w.text-is ∙ ap (λ l. followed_by l rest) put ∙ line_there ss rs i c.loop-row-test.true t (omega arith) ∙ c.loop-row.invariant
       | else-row-rows w ↦ ap (λ x. followed_by (text_of x) rest) w.text-is ∙ ap (followed_by t) (line_past ss rs i c.loop-row-test.true (omega arith)) ∙ c.loop-row.invariant
     ]

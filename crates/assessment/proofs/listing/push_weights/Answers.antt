@@ -8,11 +8,11 @@ pub returns-in-empty : goal.returns-in-empty
 returns-in-empty c =
     let ws = c.args.weights.now in
     let none : length ws ≡ 0 = search rules in
-    c.push-str.ensures ∙ ap (λ ns. followed_by (text_of c.args.text.now) (line (spaced ns))) (sym (nil_from_length ws none))
+    c.push_str.ensures ∙ ap (λ ns. followed_by (text_of c.args.text.now) (line (spaced ns))) (sym (nil_from_length ws none))
 
 pub returns-in-len1-up : goal.returns-in-len1-up
 returns-in-len1-up c =
     let ws = c.args.weights.now in
     let some : 0 < length ws = search rules in
     let parts : get_or ws 0 0 ∷ take (length ws - 1) (drop 1 ws) ≡ ws = ap (λ ns. get_or ws 0 0 ∷ ns) (take_rest ws 1) ∙ sym (drop_more ws 0 0 some) in
-    c.push-line.ensures ∙ ap (λ ns. followed_by (text_of c.args.text.now) (line (spaced ns))) parts
+    c.push_line.ensures ∙ ap (λ ns. followed_by (text_of c.args.text.now) (line (spaced ns))) parts
