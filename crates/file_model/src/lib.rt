@@ -15,7 +15,7 @@ ghost use Rattle.file_model.specs.Index.{Counted, Indexed, Whole, blank_bytes, r
 
 use file_check::check::check;
 use file_check::faults::FileFault;
-use mdp::{MAX_CHOICES, MAX_COLUMNS, MAX_STATES, Model as MdpModel, WholeBranch};
+use mdp::{MAX_CHOICES, MAX_COLUMNS, MAX_STATES, Model as DecisionModel, WholeBranch};
 
 // The number of a state's choices, and where they stand.
 #[derive(Clone, Copy)]
@@ -189,7 +189,7 @@ impl<'a> FileModel<'a> {
     }
 }
 
-impl MdpModel for FileModel<'_> {
+impl DecisionModel for FileModel<'_> {
     ghost table = { λ m. decode m.bytes.now };
 
     ghost facts = { λ m. file_facts m.bytes.now m.sound m.typed };

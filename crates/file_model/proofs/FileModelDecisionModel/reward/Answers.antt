@@ -2,7 +2,7 @@ use Rattle.std.proofs.Common.{ltb, get_or, Some, sym, ap, ◌∙◌, arith, w16}
 use Rattle.std.proofs.lemmas.Int.{to_z-of_z}
 use Rattle.std.proofs.lemmas.Bool.{cond-true, lt-ltb}
 use Rattle.file_model.proofs.Asked.{reward_some, reward_past}
-use Rattle.file_model.proofs.FileModelMdpModel.reward.Goals as goal
+use Rattle.file_model.proofs.FileModelDecisionModel.reward.Goals as goal
 
 pub returns-then-column-self : goal.returns-then-column-self
 returns-then-column-self c = sym (reward_past c.args.self.now.bytes.now c.args.state c.args.choice c.args.branch _ c.in_ok-at.ensures.place c.args.column (omega arith))

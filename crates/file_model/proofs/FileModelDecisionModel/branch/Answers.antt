@@ -1,5 +1,5 @@
 use Rattle.file_model.proofs.Asked.{whole_is}
-use Rattle.file_model.proofs.FileModelMdpModel.branch.Goals as goal
+use Rattle.file_model.proofs.FileModelDecisionModel.branch.Goals as goal
 
 pub returns : goal.returns
 returns c =

@@ -2,7 +2,7 @@ use Rattle.std.proofs.Common.{◌<◌, get_or, arith}
 use Rattle.file_check.specs.Check.{word}
 use Rattle.file_model.specs.Index.{no_choices}
 use Rattle.file_model.proofs.Asked.{states_outside, count_is}
-use Rattle.file_model.proofs.FileModelMdpModel.choices.Goals as goal
+use Rattle.file_model.proofs.FileModelDecisionModel.choices.Goals as goal
 
 pub returns-then-state-word_at : goal.returns-then-state-word_at
 returns-then-state-word_at c = states_outside c.args.self.now.bytes.now c.args.state (omega arith)
