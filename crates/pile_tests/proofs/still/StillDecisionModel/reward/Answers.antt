@@ -1,6 +1,6 @@
 use Rattle.std.proofs.Common.{sym}
 use Rattle.pile_tests.proofs.Alike.{still_reward, still_reward_past}
-use Rattle.pile_tests.proofs.still.StillModel.reward.Goals as goal
+use Rattle.pile_tests.proofs.still.StillDecisionModel.reward.Goals as goal
 
 pub returns-then-column-self : goal.returns-then-column-self
 returns-then-column-self c =
