@@ -1,7 +1,7 @@
 use Rattle.std.proofs.Common.{sym, ap, ◌∙◌}
 use Rattle.mdp.specs.Table.{Table}
 use Rattle.tables.proofs.Mirror.{mirror_columns, mirror_idle}
-use Rattle.mirror.proofs.MirrorModel.columns.Goals as goal
+use Rattle.mirror.proofs.MirrorDecisionModel.columns.Goals as goal
 
 pub returns-in-Some : goal.returns-in-Some
 returns-in-Some g c = mirror_columns c.args.self.now.on c.args.self.now.column (g.M.Model.table c.args.self.now.below) c.in-Some.last c.in-Some.ensures
