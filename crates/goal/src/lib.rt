@@ -6,15 +6,15 @@ ghost use Rattle.tables.specs.Goal.{max_marks, state_below, goal_next, goal_rewa
 ghost use Rattle.tables.proofs.Goal.{goal_facts};
 ghost use Rattle.goal.specs.Fits.{goal_fit, goal_room};
 
-use crate::fault::{GoalCause, GoalFault};
+use crate::causes::{GoalCause, GoalFault};
 use crate::marks::{MAX_MARKS, Marks};
-use mdp::{MAX_COLUMNS, Model, WholeBranch};
+use mdp::{MAX_COLUMNS, Model as DecisionModel, WholeBranch};
 
-pub mod fault;
+pub mod causes;
 pub mod marks;
 
 #[derive(Drop)]
-pub struct Goal<M: Model> {
+pub struct Goal<M: DecisionModel> {
     below: M,
     marks: Marks,
     on: bool,
@@ -60,7 +60,7 @@ fn step_to(marks: &Marks, states: usize, met: bool, next: usize) -> Step
 }
 
 // Whether the layer fits a model with these marks.
-fn check_fit<M: Model>(below: &M, marks: &Marks) -> Result<(), GoalFault>
+fn check_fit<M: DecisionModel>(below: &M, marks: &Marks) -> Result<(), GoalFault>
     ensures { result ≡ goal_fit (M.Model.table below.now) marks.now.marked }
 {
     let states = below.states();
@@ -85,7 +85,7 @@ fn check_fit<M: Model>(below: &M, marks: &Marks) -> Result<(), GoalFault>
     }
 }
 
-impl<M: Model> Goal<M> {
+impl<M: DecisionModel> Goal<M> {
     pub fn idle(below: M) -> Goal<M>
         ensures below { result.below ≡ below }
         ensures table { goal_view result.on result.marks.marked (M.Model.table result.below) ≡ M.Model.table below }
@@ -136,7 +136,7 @@ impl<M: Model> Goal<M> {
     }
 }
 
-pub impl<M: Model> Model for Goal<M> as GoalModel {
+impl<M: DecisionModel> DecisionModel for Goal<M> {
     ghost table = { λ m. goal_view m.on m.marks.marked (M.Model.table m.below) };
 
     ghost facts = { λ m. goal_facts m.on m.marks.marked (M.Model.table m.below) (M.Model.facts m.below) };

@@ -7,13 +7,13 @@ ghost use Rattle.tables.specs.Mirror.{mirror_table, mirror_room, mirror_view};
 ghost use Rattle.tables.proofs.Mirror.{mirror_facts};
 ghost use Rattle.mirror.specs.Fits.{mirror_fit};
 
-use crate::fault::{MirrorCause, MirrorFault};
-use mdp::{MAX_COLUMNS, Model, WholeBranch};
+use crate::causes::{MirrorCause, MirrorFault};
+use mdp::{MAX_COLUMNS, Model as DecisionModel, WholeBranch};
 
-pub mod fault;
+pub mod causes;
 
 #[derive(Drop)]
-pub struct Mirror<M: Model> {
+pub struct Mirror<M: DecisionModel> {
     below: M,
     column: usize,
     on: bool,
@@ -27,7 +27,7 @@ fn negative(reward: i16) -> i16
 }
 
 // Whether the layer fits a model with this column.
-fn check_fit<M: Model>(below: &M, column: usize) -> Result<(), MirrorFault>
+fn check_fit<M: DecisionModel>(below: &M, column: usize) -> Result<(), MirrorFault>
     ensures { result ≡ mirror_fit (M.Model.table below.now) column }
 {
     let columns = below.columns();
@@ -46,7 +46,7 @@ fn check_fit<M: Model>(below: &M, column: usize) -> Result<(), MirrorFault>
     Ok(())
 }
 
-impl<M: Model> Mirror<M> {
+impl<M: DecisionModel> Mirror<M> {
     pub fn idle(below: M) -> Mirror<M>
         ensures below { result.below ≡ below }
         ensures table { mirror_view result.on result.column (M.Model.table result.below) ≡ M.Model.table below }
@@ -86,7 +86,7 @@ impl<M: Model> Mirror<M> {
     }
 }
 
-pub impl<M: Model> Model for Mirror<M> as MirrorModel {
+impl<M: DecisionModel> DecisionModel for Mirror<M> {
     ghost table = { λ m. mirror_view m.on m.column (M.Model.table m.below) };
 
     ghost facts = { λ m. mirror_facts m.on m.column (M.Model.table m.below) (M.Model.facts m.below) };

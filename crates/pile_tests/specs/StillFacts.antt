@@ -1,14 +1,14 @@
 -- That table has the facts of a model's table.
 use Rattle.std.proofs.Common.{sym, subst, arith}
-use Rattle.std.specs.Prelude.{ℕ, zero, suc, ◌≤◌, replicate, pos, All, unsigned_abs, refl}
+use Rattle.std.specs.Prelude.{ℕ, ◌≤◌, replicate, pos, All, unsigned_abs, refl}
 use Rattle.std.proofs.lemmas.List.{length-replicate}
+use Rattle.std.proofs.lemmas.List.Elements.{All-from_recursion, All-replicate}
 use Rattle.mdp.specs.Limits.{max_states, max_columns, max_reward}
-use Rattle.mdp.specs.Table.{ChoiceFacts, StateFacts, Facts}
+use Rattle.mdp.specs.Table.{BranchFacts, ChoiceFacts, StateFacts, Facts}
 use Rattle.pile_tests.specs.Still.{still_choice, still_state, still_table}
 
 all_replicate : {X : Type 0} (P : X → Type 0) (x : X) → P x → (n : ℕ) → All P (replicate n x)
-all_replicate P x h zero = tt
-all_replicate P x h (suc n) = (h, all_replicate P x h n)
+all_replicate P x h n = All-replicate P n x h
 
 module _ (states columns : ℕ) (states-low : 1 ≤ states) (states-high : states ≤ max_states) (columns_low : 1 ≤ columns) (columns_high : columns ≤ max_columns) where
   choice_facts : ChoiceFacts states 1 columns (still_choice columns)
@@ -16,7 +16,7 @@ module _ (states columns : ℕ) (states-low : 1 ≤ states) (states-high : state
     some = omega arith;
     few = omega arith;
     whole = refl;
-    branches = (
+    branches = All-from_recursion (BranchFacts states 1 columns) (still_choice columns) (
       record {
         weight_low = omega arith;
         weight_high = omega arith;
@@ -29,7 +29,7 @@ module _ (states columns : ℕ) (states-low : 1 ≤ states) (states-high : state
   }
 
   state_facts : StateFacts states 1 columns (still_state columns)
-  state_facts = record { some = omega arith; few = omega arith; choices = (choice_facts, tt) }
+  state_facts = record { some = omega arith; few = omega arith; choices = All-from_recursion (ChoiceFacts states 1 columns) (still_state columns) (choice_facts, tt) }
 
   pub still_facts : Facts (still_table states columns)
   still_facts =

@@ -6,7 +6,7 @@ ghost use Rattle.tables.specs.CounterBox.{clamped};
 ghost use Rattle.pile_tests.specs.Still.{still_branch, still_table};
 ghost use Rattle.pile_tests.specs.StillFacts.{still_facts};
 
-use mdp::{MAX_COLUMNS, MAX_STATES, Model};
+use mdp::{MAX_COLUMNS, MAX_STATES, Model as DecisionModel};
 
 #[derive(Clone, Copy)]
 pub struct Still {
@@ -40,7 +40,7 @@ impl Still {
     }
 }
 
-pub impl Model for Still as StillModel {
+impl DecisionModel for Still {
     ghost table = { λ m. still_table m.states m.columns };
 
     ghost facts = { λ m. still_facts m.states m.columns m.ranges.0 m.ranges.1 m.ranges.2 m.ranges.3 };
