@@ -108,7 +108,7 @@ fn run_case(rt: &HostRuntime, cases: &mut Cases) -> anyhow::Result<()> {
     let mut rows = [NO_ROW; ROWS];
     let objectives = &question.objectives[0..question.count];
     let weights = &question.weights[0..question.count];
-    let Some(first) = sweep::<FileModelModel, blend::Up, blend::Down>(
+    let Some(first) = sweep::<FileModel, blend::Up, blend::Down>(
         &model, objectives, weights, &mut rows,
     ) else {
         return Err(anyhow!("a sweep was refused"));

@@ -33,7 +33,7 @@ mod tests {
             target: 0,
         }];
         let mut rows = [ROW; 2];
-        sweep::<FileModelModel, blend::Up, blend::Down>(&model, &objectives, &[1], &mut rows)
+        sweep::<FileModel, blend::Up, blend::Down>(&model, &objectives, &[1], &mut rows)
     }
 
     fn check_row(
@@ -71,7 +71,7 @@ mod tests {
             },
         ];
         let mut rows = [ROW; 5];
-        let row = sweep::<CounterBoxModel, blend::Up, blend::Down>(
+        let row = sweep::<CounterBox, blend::Up, blend::Down>(
             &model,
             &objectives,
             &[1, 0],
@@ -99,7 +99,7 @@ mod tests {
         };
         let mut rows = [ROW; 4];
         assert!(rt;
-            sweep::<CounterBoxModel, blend::Up, blend::Down>(
+            sweep::<CounterBox, blend::Up, blend::Down>(
                 &model,
                 &[objective; 5],
                 &[1; 5],
@@ -107,7 +107,7 @@ mod tests {
             ).is_none()
         );
         assert!(rt;
-            sweep::<CounterBoxModel, blend::Up, blend::Down>(
+            sweep::<CounterBox, blend::Up, blend::Down>(
                 &model,
                 &[objective],
                 &[1; 2],
@@ -115,7 +115,7 @@ mod tests {
             ).is_none()
         );
         assert!(rt;
-            sweep::<CounterBoxModel, blend::Up, blend::Down>(
+            sweep::<CounterBox, blend::Up, blend::Down>(
                 &model,
                 &[objective],
                 &[1001],
@@ -123,15 +123,10 @@ mod tests {
             ).is_none()
         );
         assert!(rt;
-            sweep::<CounterBoxModel, blend::Up, blend::Down>(
-                &model,
-                &[far],
-                &[1],
-                &mut rows,
-            ).is_none()
+            sweep::<CounterBox, blend::Up, blend::Down>(&model, &[far], &[1], &mut rows).is_none()
         );
         assert!(rt;
-            sweep::<CounterBoxModel, blend::Up, blend::Down>(
+            sweep::<CounterBox, blend::Up, blend::Down>(
                 &model,
                 &[objective],
                 &[1],
@@ -140,7 +135,7 @@ mod tests {
         );
         check_row(&rt, Some(rows[0]), 7, [7; 4])?;
         assert!(rt;
-            sweep::<CounterBoxModel, blend::Up, blend::Down>(
+            sweep::<CounterBox, blend::Up, blend::Down>(
                 &model,
                 &[objective],
                 &[1000],
