@@ -8,8 +8,8 @@ use Rattle.tables.specs.Goal.{max_marks, is_wrong, lowest, goal_table, goal_fits
 use Rattle.tables.proofs.Places.{ok_passes}
 use Rattle.tables.proofs.Goal.{goal_switched}
 use Rattle.goal.specs.Fits.{refused, marks_fit, goal_fit}
-use Rattle.goal.specs.declared.causes.GoalCause.{GoalCause}
-use Rattle.goal.specs.declared.causes.GoalCause.TheVariants.{Room}
+use Rattle.goal.specs.declared.faults.GoalCause.{GoalCause}
+use Rattle.goal.specs.declared.faults.GoalCause.TheVariants.{Room}
 
 goal_fit_fits : (t : Table) (marks : List Bool) → is_ok (goal_fit t marks) ≡ true → goal_fits t ≡ true
 goal_fit_fits t marks e =

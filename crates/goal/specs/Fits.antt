@@ -4,8 +4,8 @@ use Rattle.fault.specs.declared.Fault.{Fault}
 use Rattle.mdp.specs.Limits.{max_columns}
 use Rattle.mdp.specs.Table.{Table}
 use Rattle.tables.specs.Goal.{max_marks, is_wrong, lowest, goal_fits}
-use Rattle.goal.specs.declared.causes.GoalCause.{GoalCause}
-use Rattle.goal.specs.declared.causes.GoalCause.TheVariants.{Room, Mark}
+use Rattle.goal.specs.declared.faults.GoalCause.{GoalCause}
+use Rattle.goal.specs.declared.faults.GoalCause.TheVariants.{Room, Mark}
 use Rattle.goal.specs.declared.Size.{Size}
 
 abbrev pub refused : GoalCause → ℕ → Result (Unit {0}) (Fault GoalCause)

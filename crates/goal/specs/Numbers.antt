@@ -1,7 +1,7 @@
 -- The numbers of the causes. Assumes nothing.
 use Rattle.std.specs.Prelude.{ℕ}
-use Rattle.goal.specs.declared.causes.GoalCause.{GoalCause}
-use Rattle.goal.specs.declared.causes.GoalCause.TheVariants.{Room, Mark}
+use Rattle.goal.specs.declared.faults.GoalCause.{GoalCause}
+use Rattle.goal.specs.declared.faults.GoalCause.TheVariants.{Room, Mark}
 
 abbrev pub goal_number : GoalCause → ℕ
 goal_number Room = 6

@@ -6,11 +6,11 @@ ghost use Rattle.tables.specs.Goal.{max_marks, state_below, goal_next, goal_rewa
 ghost use Rattle.tables.proofs.Goal.{goal_facts};
 ghost use Rattle.goal.specs.Fits.{goal_fit, goal_room};
 
-use crate::causes::{GoalCause, GoalFault};
+use crate::faults::{GoalCause, GoalFault};
 use crate::marks::{MAX_MARKS, Marks};
 use mdp::{MAX_COLUMNS, Model as DecisionModel, WholeBranch};
 
-pub mod causes;
+pub mod faults;
 pub mod marks;
 
 #[derive(Drop)]

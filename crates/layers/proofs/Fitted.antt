@@ -8,11 +8,11 @@ use Rattle.tables.proofs.Goal.{goal_switched}
 use Rattle.tables.specs.Mirror.{mirror_table, mirror_fits, mirror_view}
 use Rattle.tables.proofs.Mirror.{mirror_switched}
 use Rattle.layers.specs.Fits.{refused, marks_fit, goal_fit, mirror_fit}
-use Rattle.layers.specs.declared.causes.MirrorCause.{MirrorCause}
-use Rattle.layers.specs.declared.causes.MirrorCause.TheVariants as mirror
+use Rattle.layers.specs.declared.faults.MirrorCause.{MirrorCause}
+use Rattle.layers.specs.declared.faults.MirrorCause.TheVariants as mirror
 use Rattle.fault.specs.declared.Fault.{Fault}
-use Rattle.layers.specs.declared.causes.GoalCause.{GoalCause}
-use Rattle.layers.specs.declared.causes.GoalCause.TheVariants as goal
+use Rattle.layers.specs.declared.faults.GoalCause.{GoalCause}
+use Rattle.layers.specs.declared.faults.GoalCause.TheVariants as goal
 
 -- what is not refused by a test passes it
 ok_passes : {X Y : Type 0} (b : Bool) (x y : Result X Y) → is_ok x ≡ false → is_ok (cond b x y) ≡ true → (b ≡ false) × (is_ok y ≡ true)

@@ -4,10 +4,10 @@ use Rattle.fault.specs.declared.Fault.{Fault}
 use Rattle.mdp.specs.Limits.{max_columns}
 use Rattle.mdp.specs.Table.{Table}
 use Rattle.tables.specs.Goal.{max_marks, is_wrong, lowest, goal_fits}
-use Rattle.layers.specs.declared.causes.GoalCause.{GoalCause}
-use Rattle.layers.specs.declared.causes.GoalCause.TheVariants as goal
-use Rattle.layers.specs.declared.causes.MirrorCause.{MirrorCause}
-use Rattle.layers.specs.declared.causes.MirrorCause.TheVariants as mirror
+use Rattle.layers.specs.declared.faults.GoalCause.{GoalCause}
+use Rattle.layers.specs.declared.faults.GoalCause.TheVariants as goal
+use Rattle.layers.specs.declared.faults.MirrorCause.{MirrorCause}
+use Rattle.layers.specs.declared.faults.MirrorCause.TheVariants as mirror
 use Rattle.layers.specs.declared.goal.Size.{Size}
 
 abbrev pub refused : {C : Type 0} → C → ℕ → Result (Unit {0}) (Fault C)

@@ -1,9 +1,9 @@
 -- The numbers of the causes. Assumes nothing.
 use Rattle.std.specs.Prelude.{ℕ}
-use Rattle.layers.specs.declared.causes.GoalCause.{GoalCause}
-use Rattle.layers.specs.declared.causes.GoalCause.TheVariants as goal
-use Rattle.layers.specs.declared.causes.MirrorCause.{MirrorCause}
-use Rattle.layers.specs.declared.causes.MirrorCause.TheVariants as mirror
+use Rattle.layers.specs.declared.faults.GoalCause.{GoalCause}
+use Rattle.layers.specs.declared.faults.GoalCause.TheVariants as goal
+use Rattle.layers.specs.declared.faults.MirrorCause.{MirrorCause}
+use Rattle.layers.specs.declared.faults.MirrorCause.TheVariants as mirror
 
 abbrev pub goal_number : GoalCause → ℕ
 goal_number goal.Room = 6

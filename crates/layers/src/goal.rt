@@ -4,8 +4,8 @@ ghost use Rattle.tables.specs.Goal.{max_marks, state_below, goal_next, goal_rewa
 ghost use Rattle.tables.proofs.Goal.{goal_facts};
 ghost use Rattle.layers.specs.Fits.{goal_fit, goal_room};
 
-use crate::causes::{GoalCause, GoalFault, refuse};
 use crate::extend;
+use crate::faults::{GoalCause, GoalFault, refuse};
 use crate::marks::{MAX_MARKS, Marks};
 use mdp::{MAX_COLUMNS, Model as DecisionModel, WholeBranch};
 

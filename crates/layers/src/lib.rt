@@ -7,7 +7,7 @@ ghost use Rattle.tables.specs.Whole.{whole_extended};
 
 use mdp::WholeBranch;
 
-pub mod causes;
+pub mod faults;
 pub mod goal;
 pub mod marks;
 pub mod mirror;

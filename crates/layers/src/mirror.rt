@@ -5,8 +5,8 @@ ghost use Rattle.tables.specs.Mirror.{mirror_table, mirror_room, mirror_view};
 ghost use Rattle.tables.proofs.Mirror.{mirror_facts};
 ghost use Rattle.layers.specs.Fits.{mirror_fit};
 
-use crate::causes::{MirrorCause, MirrorFault, refuse};
 use crate::extend;
+use crate::faults::{MirrorCause, MirrorFault, refuse};
 use mdp::{MAX_COLUMNS, Model as DecisionModel, WholeBranch};
 
 #[derive(Drop)]

@@ -8,8 +8,8 @@ use Rattle.tables.specs.Mirror.{mirror_table, mirror_fits, mirror_view}
 use Rattle.tables.proofs.Places.{ok_passes}
 use Rattle.tables.proofs.Mirror.{mirror_switched}
 use Rattle.mirror.specs.Fits.{refused, mirror_fit}
-use Rattle.mirror.specs.declared.causes.MirrorCause.{MirrorCause}
-use Rattle.mirror.specs.declared.causes.MirrorCause.TheVariants.{Room, Column}
+use Rattle.mirror.specs.declared.faults.MirrorCause.{MirrorCause}
+use Rattle.mirror.specs.declared.faults.MirrorCause.TheVariants.{Room, Column}
 
 mirror_fit_fits : (t : Table) (j : ℕ) → is_ok (mirror_fit t j) ≡ true → mirror_fits j t ≡ true
 mirror_fit_fits t j e =

@@ -3,8 +3,8 @@ use Rattle.std.specs.Prelude.{ℕ, cond, Ok, Err, Result, nat_le}
 use Rattle.fault.specs.declared.Fault.{Fault}
 use Rattle.mdp.specs.Limits.{max_columns}
 use Rattle.mdp.specs.Table.{Table}
-use Rattle.mirror.specs.declared.causes.MirrorCause.{MirrorCause}
-use Rattle.mirror.specs.declared.causes.MirrorCause.TheVariants.{Room, Column}
+use Rattle.mirror.specs.declared.faults.MirrorCause.{MirrorCause}
+use Rattle.mirror.specs.declared.faults.MirrorCause.TheVariants.{Room, Column}
 
 abbrev pub refused : MirrorCause → ℕ → Result (Unit {0}) (Fault MirrorCause)
 refused c p = Err (record { cause = c; place = p })

@@ -7,10 +7,10 @@ ghost use Rattle.tables.specs.Mirror.{mirror_table, mirror_room, mirror_view};
 ghost use Rattle.tables.proofs.Mirror.{mirror_facts};
 ghost use Rattle.mirror.specs.Fits.{mirror_fit};
 
-use crate::causes::{MirrorCause, MirrorFault};
+use crate::faults::{MirrorCause, MirrorFault};
 use mdp::{MAX_COLUMNS, Model as DecisionModel, WholeBranch};
 
-pub mod causes;
+pub mod faults;
 
 #[derive(Drop)]
 pub struct Mirror<M: DecisionModel> {

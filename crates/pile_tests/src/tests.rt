@@ -2,7 +2,7 @@
 use crate::still::Still;
 use counter_box::CounterBox;
 use fault::Fault;
-use layers::causes::{GoalCause, GoalFault, MirrorCause, MirrorFault};
+use layers::faults::{GoalCause, GoalFault, MirrorCause, MirrorFault};
 use layers::goal::Goal;
 use layers::marks::Marks;
 use layers::mirror::Mirror;
