@@ -45,7 +45,7 @@ pub record ShowsTrue (t : Table) (d : Docket) : Type 0 where
   pub numbers : (ws : List ℕ) (c s : ℤ) → d.verdict ≡ Refuted ws c s →
       (c ≡ ceiling t d.objectives ws) × (s ≡ target_sum ws d.objectives) × (c <ℤ s)
 
--- after any calls on a posed docket and one more, taken or refused; no contract names it before all calls are code
+-- after any calls on a docket posed with accepted objectives and one more, taken or refused
 abbrev pub Truth : Type 0
 Truth =
     (t : Table) (os : List Objective) (calls : List Call) (call : Call) → Facts t → Posable t os →
