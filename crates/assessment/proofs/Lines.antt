@@ -4,7 +4,7 @@ use Rattle.std.specs.List.{flat_map}
 use Rattle.std.proofs.lemmas.List.{append-nil, take_all}
 use Rattle.text.specs.declared.Text.{Text}
 use Rattle.text.specs.Texts.{text_of, followed_by}
-use Rattle.text.proofs.Then.{then_then}
+use Rattle.text.proofs.Followed.{followed_twice}
 use Rattle.assessment.specs.Listings.{spaced}
 
 pub then_none : (t : Text) → followed_by (text_of t) [] ≡ text_of t
@@ -24,7 +24,7 @@ whole a (b ∷ bs) = a ++ whole b bs
 
 pub put_whole : (t a : List ℕ) (bs : List (List ℕ)) → put (followed_by t a) bs ≡ followed_by t (whole a bs)
 put_whole t a [] = refl
-put_whole t a (b ∷ bs) = put_whole (followed_by t a) b bs ∙ then_then t a (whole b bs)
+put_whole t a (b ∷ bs) = put_whole (followed_by t a) b bs ∙ followed_twice t a (whole b bs)
 
 -- a number behind a space
 abbrev pub behind : ℕ → List ℕ

@@ -10,7 +10,7 @@ use Rattle.truth.proofs.Drafting.{drafted_posable}
 use Rattle.truth.proofs.Rows.{orderly_none}
 use Rattle.truth.proofs.Taken.{after_taken}
 use Rattle.text.specs.Texts.{followed_by}
-use Rattle.text.proofs.Then.{then_fits}
+use Rattle.text.proofs.Followed.{followed_fits}
 use Rattle.assessment.specs.declared.faults.QuestionFault.{QuestionFault}
 use Rattle.assessment.specs.Faults.{Told, told_fault, told, unless}
 use Rattle.assessment.specs.Listings.{lines_of, listing}
@@ -76,4 +76,4 @@ module _ (t : Table) (o p : Objective) (lent : ℕ) where
       let is = after_taken t d (settle lent) taken in
       let orderly = orderly_none t (drafted t.columns (o ∷ p ∷ [])) (drafted_posable t (o ∷ p ∷ [])) in
       let all : lines_of v rs ≡ listing (settled t d) = ap (λ v. lines_of v rs) ev ∙ ap (lines_of (settled t d).verdict) (er ∙ ap (λ (e : Docket). e.table) is) in
-      ap (followed_by []) all ∙ then_fits [] (listing (settled t d)) (listing_short t facts d orderly lent taken) ∙ ap listing (sym is)
+      ap (followed_by []) all ∙ followed_fits [] (listing (settled t d)) (listing_short t facts d orderly lent taken) ∙ ap listing (sym is)

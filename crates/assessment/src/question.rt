@@ -1,5 +1,5 @@
 // The bytes of a question.
-ghost use Rattle.std.specs.Prelude.{◌≡◌, ◌<◌, ◌≤◌, eqb, length, drop, if◌then◌else◌, Ok, Err, MatchOption};
+ghost use Rattle.std.specs.Prelude.{◌≡◌, ◌<◌, ◌≤◌, ◌==◌, length, drop, if◌then◌else◌, Ok, Err, MatchOption};
 ghost use Rattle.assessment.specs.declared.faults.QuestionCause.TheVariants.{Length};
 ghost use Rattle.assessment.specs.Questions.{objective_size, question_size, objective_at, asked};
 
@@ -24,7 +24,7 @@ fn split_objective(bytes: &[u8]) -> Option<(Objective, &[u8])>
 
 // The two objectives of a question, which has just the bytes that they take.
 pub(crate) fn read(bytes: &[u8]) -> Result<[Objective; 2], Fault<QuestionCause>>
-    ensures { result ≡ (if eqb (length bytes.now) question_size then Ok (asked bytes.now) else Err (record { cause = Length; place = length bytes.now })) }
+    ensures { result ≡ (if length bytes.now == question_size then Ok (asked bytes.now) else Err (record { cause = Length; place = length bytes.now })) }
 {
     let wrong_length = Fault {
         cause: QuestionCause::Length,

@@ -1,5 +1,5 @@
 -- What a sweep asks, makes of the rows and answers. Assumes nothing.
-use Rattle.std.specs.Prelude.{◌≡◌, ℕ, ◌-◌, ◌*◌, ◌≤◌, Bool, true, cond, ◌&&◌, leb, List, [], ◌∷◌, ◌++◌, map, length, take, drop, Some, None, All, Option, ◌==◌, nat_le, slice_index_or}
+use Rattle.std.specs.Prelude.{◌≡◌, ℕ, ◌-◌, ◌*◌, ◌≤◌, Bool, true, cond, ◌&&◌, List, [], ◌∷◌, ◌++◌, map, length, take, drop, Some, None, All, Option, ◌==◌, nat_le, slice_index_or}
 use Rattle.std.specs.List.{range_with_len}
 use Rattle.mdp.specs.Table.{Table}
 use Rattle.plans.specs.declared.Objective.{Objective}
@@ -22,10 +22,10 @@ all_pass test [] = true
 all_pass test (x ∷ xs) = test x && all_pass test xs
 
 abbrev pub all_light : List ℕ → Bool
-all_light ws = all_pass (λ w. leb w max_weight) ws
+all_light ws = all_pass (λ w. nat_le w max_weight) ws
 
 abbrev pub all_near : List Objective → Bool
-all_near os = all_pass (λ o. leb o.bound max_bound) os
+all_near os = all_pass (λ o. nat_le o.bound max_bound) os
 
 abbrev pub asked : List Objective → List ℕ → Bool
 asked os ws = nat_le (length os) max_objectives && (length ws == length os && (all_light ws && all_near os))

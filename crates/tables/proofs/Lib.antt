@@ -2,7 +2,6 @@ pub mod Places
 pub mod Asked
 pub mod Follows
 pub mod Kept
-pub mod Passed
 pub mod Mirror
 pub mod Goal
 pub mod CounterBox

@@ -1,8 +1,7 @@
 -- What stands where in a list that is made of others, and what a value that is there only under a test tells.
-use Rattle.std.proofs.Common.{◌≡◌, ℕ, zero, suc, ◌+◌, ◌<◌, Bool, true, false, cond, List, [], ◌∷◌, ◌++◌, map, length, is_ok, Some, None, Result, refl, ap, arith}
+use Rattle.std.proofs.Common.{◌≡◌, ℕ, zero, suc, ◌+◌, ◌<◌, Bool, true, false, cond, List, [], ◌∷◌, ◌++◌, map, length, Some, None, refl, ap, arith}
 use Rattle.std.specs.Option.{option_map}
 use Rattle.std.specs.List.{slice_get}
-use Rattle.std.proofs.lemmas.Bool.{both_ways}
 
 pub nth_map : {X Y : Type 0} (f : X → Y) (xs : List X) (i : ℕ) → slice_get (map f xs) i ≡ option_map f (slice_get xs i)
 nth_map f [] i = refl
@@ -26,8 +25,3 @@ some_cond false x y e = let z : ◌≡◌ {A = ℕ} 0 1 = cc in absurd (omega ar
 pub none_cond : {X : Type 0} (b : Bool) (y : X) → None ≡ cond b (Some y) None → b ≡ false
 none_cond true y e = let z : ◌≡◌ {A = ℕ} 0 1 = cc in absurd (omega arith)
 none_cond false y e = refl
-
--- what is not refused by a test passes it
-pub ok_passes : {X Y : Type 0} (b : Bool) (x y : Result X Y) → is_ok x ≡ false → is_ok (cond b x y) ≡ true → (b ≡ false) × (is_ok y ≡ true)
-ok_passes true x y d e = absurd (both_ways (is_ok x) d e)
-ok_passes false x y d e = (refl, e)

@@ -1,2 +1,2 @@
-pub mod Then
+pub mod Followed
 pub mod Lengths

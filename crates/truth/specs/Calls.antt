@@ -1,5 +1,5 @@
 -- The calls on a draft and on a docket: why one is sent back, what one makes of the docket, and what one takes. Assumes nothing.
-use Rattle.std.specs.Prelude.{ℕ, ◌*◌, ◌^◌, Bool, cond, not, ◌&&◌, ◌||◌, leb, List, [], ◌∷◌, ◌++◌, length, ℤ, pos, neg_ℤ, Some, None, fold, sum, Option, ◌==◌, int_le, nat_le, nat_lt}
+use Rattle.std.specs.Prelude.{ℕ, ◌*◌, ◌^◌, Bool, cond, not, ◌&&◌, ◌||◌, List, [], ◌∷◌, ◌++◌, length, ℤ, pos, neg_ℤ, Some, None, fold, sum, Option, ◌==◌, int_le, nat_le, nat_lt}
 use Rattle.std.specs.List.{prefix_len}
 use Rattle.mdp.specs.Table.{Table}
 use Rattle.plans.specs.declared.Objective.{Objective}
@@ -32,7 +32,7 @@ first_of (c ∷ cs) = cond c.holds (Some c.fault) (first_of cs)
 
 -- how many from the front on are within the limits: the number of the first that is not
 abbrev pub small_weights : List ℕ → ℕ
-small_weights ws = prefix_len (λ w. leb w 1000) ws
+small_weights ws = prefix_len (λ w. nat_le w 1000) ws
 
 abbrev pub small_target : ℤ → Bool
 small_target z = int_le (neg_ℤ (pos (2 ^ 40))) z && int_le z (pos (2 ^ 40))

@@ -1,5 +1,5 @@
 // The rows of a table.
-ghost use Rattle.std.specs.Prelude.{◌≡◌, ◌<◌, ◌&&◌, eqb, [], ◌∷◌, ◌++◌, length, if◌then◌else◌, sum, nat_lt};
+ghost use Rattle.std.specs.Prelude.{◌≡◌, ◌<◌, ◌&&◌, ◌==◌, [], ◌∷◌, ◌++◌, length, if◌then◌else◌, sum, nat_lt};
 ghost use Rattle.truth.specs.Dockets.{same, number, part_sum, suffice};
 ghost use Rattle.verdict.specs.Answers.{told_docket, answered};
 ghost use Rattle.verdict.specs.Views.{listed};
@@ -68,7 +68,7 @@ impl RowTable {
 
     // Fills the next row, where `row` is its number and there is room.
     pub fn add(&mut self, row: usize, weights: Weights, point: [i64; MAX_OBJECTIVES])
-        ensures { table_of self.new ≡ (if eqb row (length (table_of self.old)) && nat_lt row 16 then table_of self.old ++ (record { weights = listed weights; point = point } ∷ []) else table_of self.old) }
+        ensures { table_of self.new ≡ (if row == length (table_of self.old) && nat_lt row 16 then table_of self.old ++ (record { weights = listed weights; point = point } ∷ []) else table_of self.old) }
     {
         if row == self.used && row < MAX_ROWS {
             self.rows[row] = TableRow { weights, point };

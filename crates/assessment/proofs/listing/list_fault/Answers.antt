@@ -10,7 +10,7 @@ use Rattle.verdict.specs.declared.faults.DocketCause.TheVariants.{Weights, Rows,
 use Rattle.verdict.specs.Numbers.{draft_number, docket_number}
 use Rattle.text.specs.Texts.{text_of, followed_by}
 use Rattle.text.proofs.Lengths.{length_decimal_64, length_decimal_16}
-use Rattle.text.proofs.Then.{then_fits}
+use Rattle.text.proofs.Followed.{followed_fits}
 use Rattle.assessment.specs.declared.faults.QuestionCause.{QuestionCause}
 use Rattle.assessment.specs.declared.faults.QuestionCause.TheVariants.{Length, Print}
 use Rattle.assessment.specs.declared.faults.LayerFault.{LayerFault}
@@ -64,7 +64,7 @@ line_is : (t0 t1 t2 t3 t4 t5 : List ℕ) (at : ℕ) (f : Told) → at < 2 ^ 64 �
     t3 ≡ followed_by t2 (32 ∷ []) → t4 ≡ followed_by t3 (tail_of f) → t5 ≡ followed_by t4 (10 ∷ []) → t5 ≡ fault_line f
 line_is t0 t1 t2 t3 t4 t5 at f o s e0 e1 e2 e3 e4 e5 =
     let p = put_whole [] (codes "fault ") (decimal f.offset ∷ (32 ∷ []) ∷ tail_of f ∷ (10 ∷ []) ∷ []) in
-    let fits = then_fits [] (fault_line f) (line_fits at f o s) in
+    let fits = followed_fits [] (fault_line f) (line_fits at f o s) in
     let same = s.offset in
     cc
 

@@ -6,7 +6,7 @@ use Rattle.plans.specs.Claims.{Candidate}
 use Rattle.truth.specs.Dockets.{Priced, no_priced, backed}
 use Rattle.holdings.specs.Views.{row_of}
 use Rattle.text.specs.Texts.{text_of, followed_by}
-use Rattle.text.proofs.Then.{then_then}
+use Rattle.text.proofs.Followed.{followed_twice}
 use Rattle.assessment.specs.Listings.{spaced, line, share_line}
 use Rattle.assessment.proofs.Lines.{then_none}
 use Rattle.assessment.proofs.listing.push_shares.Goals as goal
@@ -23,7 +23,7 @@ backed_none (s ∷ ss) = refl
 -- a row that is listed or not
 listed_or_not : (t : List ℕ) (c : Candidate) (cs : List Candidate) (b : Bool) →
     followed_by (cond b (followed_by t (share_line c)) t) (flat_map share_line cs) ≡ followed_by t (flat_map share_line (cond b (c ∷ cs) cs))
-listed_or_not t c cs true = then_then t (share_line c) (flat_map share_line cs)
+listed_or_not t c cs true = followed_twice t (share_line c) (flat_map share_line cs)
 listed_or_not t c cs false = refl
 
 module _ (ss : List ℕ) (rs : List Priced) (i : ℕ) (there : i < length ss) where

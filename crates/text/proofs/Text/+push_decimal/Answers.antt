@@ -1,7 +1,7 @@
 use Rattle.std.proofs.Common.{◌≡◌, ℕ, ◌+◌, ◌/◌, ◌%◌, ◌<◌, List, [], ◌∷◌, decimal, sym, ap, ◌∙◌, arith}
 use Rattle.std.proofs.lemmas.Fmt.{decimal_digit, decimal_step}
 use Rattle.text.specs.Texts.{text_of, followed_by}
-use Rattle.text.proofs.Then.{then_more}
+use Rattle.text.proofs.Followed.{followed_on}
 use Rattle.text.proofs.Text.+push_decimal.Goals as goal
 use Rattle.text.proofs.Text.+push_decimal.Goals.{then-number-ge10, else-number-ge10}
 
@@ -17,7 +17,7 @@ returns t c =
     let number = c.args.number in
     elim c.if-number-ge10.branch [
       | then-number-ge10 w ↦
-          then_more text (decimal (number / 10)) (last_digit number) (ap text_of w.self-is ∙ w.push_decimal.ensures) c.push_bytes.ensures
+          followed_on text (decimal (number / 10)) (last_digit number) (ap text_of w.self-is ∙ w.push_decimal.ensures) c.push_bytes.ensures
           ∙ ap (followed_by text) (sym (decimal_step number w.if-number-ge10.true (omega arith)))
       | else-number-ge10 w ↦
           c.push_bytes.ensures ∙ ap (λ s. followed_by (text_of s) (last_digit number)) w.self-is ∙ ap (followed_by text) (only_digit number w.if-number-ge10.false)

@@ -4,7 +4,7 @@ use Rattle.std.specs.Fmt.{signed_decimal}
 use Rattle.std.proofs.lemmas.Int.{to_z-of_z}
 use Rattle.std.proofs.lemmas.Bool.{ltb-true, true≢false}
 use Rattle.text.specs.Texts.{text_of, followed_by}
-use Rattle.text.proofs.Then.{then_more}
+use Rattle.text.proofs.Followed.{followed_on}
 use Rattle.text.proofs.Text.push_signed.Goals as goal
 use Rattle.text.proofs.Text.push_signed.Goals.{then-number-lt0, else-number-lt0}
 
@@ -23,7 +23,7 @@ returns c =
     let pushed = c.push_decimal.ensures ∙ ap (λ n. followed_by (text_of c.if-number-lt0.self) (decimal n)) c.unsigned_abs.ensures.value in
     elim c.if-number-lt0.branch [
       | then-number-lt0 w ↦
-          then_more text (45 ∷ []) (decimal (nat_abs number)) (ap text_of w.self-is ∙ w.push_str.ensures) pushed ∙ ap (followed_by text) (below_zero number w.if-number-lt0.true)
+          followed_on text (45 ∷ []) (decimal (nat_abs number)) (ap text_of w.self-is ∙ w.push_str.ensures) pushed ∙ ap (followed_by text) (below_zero number w.if-number-lt0.true)
       | else-number-lt0 w ↦
           pushed ∙ ap (λ s. followed_by (text_of s) (decimal (nat_abs number))) w.self-is ∙ ap (followed_by text) (from_zero number w.if-number-lt0.false)
     ]
