@@ -1,5 +1,5 @@
 -- The worked figures come, by computation.
-use Rattle.std.proofs.Common.{◌≤◌, [], ◌∷◌, ℤ, pos, neg_ℤ, nat_abs, All, refl, arith}
+use Rattle.std.proofs.Common.{◌≤◌, [], ◌∷◌, ℤ, pos, neg_ℤ, nat_abs, refl, arith}
 use Rattle.std.proofs.lemmas.List.Elements.{All-from_recursion}
 use Rattle.mdp.specs.Table.{Branch, State, BranchFacts, ChoiceFacts, StateFacts, Facts}
 use Rattle.truth.specs.Dockets.{priced, mixed}
