@@ -28,6 +28,7 @@ pub struct WholeBranch {
 }
 
 // A question about a state, choice, branch or column that the model lacks is answered by `None`.
+// Three numbers name a branch, as in the table: a struct of them would be taken apart again in every answer.
 pub trait Model {
     // the whole table that the answers are read from
     ghost table: { Self → Table };
