@@ -23,14 +23,11 @@ module _ (xs : List ℕ) (e p n i : ℕ) (h : i < n) where
   rewards_turn : rewards_at xs e p (n - i) ≡ then_do (field_at xs e p) (λ v. cond (reward_fits v) (rewards_at xs e (p + 2) (n - (i + 1))) (bad Field p))
   rewards_turn = rw (less n i h) refl
 
-  pub rewards_cut : {y : FileFault} → Err y ≡ field_at xs e p → rewards_at xs e p (n - i) ≡ Err y
-  rewards_cut k = rewards_turn ∙ then_err _ k
-
   pub rewards_wrong : {v : ℕ} → Ok v ≡ field_at xs e p → false ≡ reward_fits v → rewards_at xs e p (n - i) ≡ bad Field p
   rewards_wrong k b = rewards_turn ∙ (then_ok _ k ∙ rw (← b) refl)
 
-  pub rewards_more : {v : ℕ} → Ok v ≡ field_at xs e p → true ≡ reward_fits v → rewards_at xs e p (n - i) ≡ rewards_at xs e (p + 2) (n - (i + 1))
-  rewards_more k b = rewards_turn ∙ (then_ok _ k ∙ rw (← b) refl)
+  pub rewards_more : {v q : ℕ} → Ok v ≡ field_at xs e p → true ≡ reward_fits v → p + 2 ≡ q → rewards_at xs e p (n - i) ≡ rewards_at xs e q (n - (i + 1))
+  rewards_more k b s = rewards_turn ∙ (then_ok _ k ∙ rw (← b, s) refl)
 
 module _ (xs : List ℕ) (l : Header) (e p n i sum : ℕ) (h : i < n) where
   branches_turn : branches_at xs l e p (n - i) sum ≡ then_do (branch_at xs l e p) (λ w. branches_at xs l e (p + branch_size l.columns) (n - (i + 1)) (sum + w))
@@ -39,7 +36,7 @@ module _ (xs : List ℕ) (l : Header) (e p n i sum : ℕ) (h : i < n) where
   pub branches_cut : {y : FileFault} → Err y ≡ branch_at xs l e p → branches_at xs l e p (n - i) sum ≡ Err y
   branches_cut k = branches_turn ∙ then_err _ k
 
-  pub branches_more : {v z : ℕ} → Ok v ≡ branch_at xs l e p → z ≡ branch_size l.columns → branches_at xs l e p (n - i) sum ≡ branches_at xs l e (p + z) (n - (i + 1)) (sum + v)
+  pub branches_more : {v q : ℕ} → Ok v ≡ branch_at xs l e p → p + branch_size l.columns ≡ q → branches_at xs l e p (n - i) sum ≡ branches_at xs l e q (n - (i + 1)) (sum + v)
   branches_more k s = branches_turn ∙ (then_ok _ k ∙ rw s refl)
 
 module _ (xs : List ℕ) (l : Header) (e p n i : ℕ) (h : i < n) where
@@ -59,12 +56,12 @@ module _ (xs : List ℕ) (l : Header) (p n i : ℕ) (h : i < n) where
   blocks_turn : blocks_at xs l p (n - i) ≡ then_do (choices_at xs l (block_end xs p) (word xs p) max_choices) (λ _. blocks_at xs l (p + 4) (n - (i + 1)))
   blocks_turn = rw (less n i h) refl
 
-  module _ (a z : ℕ) (ea : a ≡ word xs p) (ez : z ≡ word xs (p + 2)) where
-    pub blocks_cut : {y : FileFault} → Err y ≡ choices_at xs l (a + z) a max_choices → blocks_at xs l p (n - i) ≡ Err y
+  module _ {a z : ℕ} (ea : a ≡ word xs p) (ez : z ≡ block_end xs p) where
+    pub blocks_cut : {y : FileFault} → Err y ≡ choices_at xs l z a max_choices → blocks_at xs l p (n - i) ≡ Err y
     blocks_cut k = blocks_turn ∙ then_err _ (rw (ea, ez) at k)
 
-    pub blocks_more : {q : Unit {0}} → Ok q ≡ choices_at xs l (a + z) a max_choices → blocks_at xs l p (n - i) ≡ blocks_at xs l (p + 4) (n - (i + 1))
-    blocks_more k = blocks_turn ∙ then_ok _ (rw (ea, ez) at k)
+    pub blocks_more : {u : Unit {0}} {q : ℕ} → Ok u ≡ choices_at xs l z a max_choices → p + 4 ≡ q → blocks_at xs l p (n - i) ≡ blocks_at xs l q (n - (i + 1))
+    blocks_more k s = blocks_turn ∙ (then_ok _ (rw (ea, ez) at k) ∙ ap (λ q. blocks_at xs l q (n - (i + 1))) s)
 
 pub choices_last : (xs : List ℕ) (l : Header) (e p i : ℕ) → max_choices ≤ i → choices_at xs l e p (max_choices - i) ≡ cond (ltb p e) (bad Field p) (Ok tt)
 choices_last xs l e p i h = let z : max_choices - i ≡ 0 = omega arith in rw z refl
@@ -76,8 +73,8 @@ module _ (xs : List ℕ) (p o n i : ℕ) (h : i < n) where
   pub pairs_wrong : false ≡ pair_fits xs p o → pairs_at xs p o (n - i) ≡ bad Pair p
   pairs_wrong b = pairs_turn ∙ rw (← b) refl
 
-  pub pairs_more : {z : ℕ} → true ≡ pair_fits xs p o → z ≡ word xs (p + 2) → pairs_at xs p o (n - i) ≡ pairs_at xs (p + 4) (o + z) (n - (i + 1))
-  pairs_more b e = pairs_turn ∙ rw (← b, e) refl
+  pub pairs_more : {q r : ℕ} → true ≡ pair_fits xs p o → p + 4 ≡ q → o + word xs (p + 2) ≡ r → pairs_at xs p o (n - i) ≡ pairs_at xs q r (n - (i + 1))
+  pairs_more b s e = pairs_turn ∙ rw (← b, s, e) refl
 
 pub record Within (xs : List ℕ) (p o : ℕ) : Type 0 where
   pub stands : word xs p ≡ o

@@ -2,10 +2,13 @@
 ghost use Rattle.std.specs.Prelude.{◌≡◌, ℕ, ◌+◌, ◌*◌, ◌^◌, ◌<◌, ◌≤◌, length, OnOk};
 ghost use Rattle.file_check.specs.Accepts.{Layout};
 ghost use Rattle.file_check.specs.Order.{FirstFault};
-ghost use Rattle.file_check.specs.Check.{bad, word, header_of, header_at, pair_fits, pairs_at, field_at, reward_fits, rewards_at, branch_at, branches_at, branch_size, choice_at, choices_at, block_end, blocks_at, check_result};
+ghost use Rattle.file_check.specs.Places.{pair_place};
+ghost use Rattle.file_check.specs.Check.{word, header_of, header_at, pair_fits, pairs_at, field_at, reward_fits, rewards_at, branch_at, branches_at, branch_size, choice_at, choices_at, block_end, blocks_at, check_result};
 
 use crate::faults::{FileCause, FileFault};
+use fault::Cause;
 use mdp::{MAX_BRANCHES, MAX_CHOICES, MAX_COLUMNS, MAX_DIVISOR, MAX_REWARD, MAX_STATES};
+use std::ops::Range;
 
 const MAX_FILE: usize = 65535;
 
@@ -16,12 +19,6 @@ struct Header {
     first: u16,
     divisor: u16,
     columns: u8,
-}
-
-fn refuse<T>(cause: FileCause, place: usize) -> Result<T, FileFault>
-    ensures { result ≡ bad cause place }
-{
-    Err(FileFault { cause, place })
 }
 
 // The number in the two bytes at an offset.
@@ -49,32 +46,36 @@ fn check_header(bytes: &[u8]) -> Result<Header, FileFault>
     ensures { result ≡ header_at bytes.now }
 {
     let header = header_of(bytes);
-    if header.states < 1 || header.states as usize > MAX_STATES {
-        return refuse(FileCause::Header, 0);
+    if !(1..=MAX_STATES).contains(&usize::from(header.states)) {
+        return Err(FileCause::Header.at(0));
     }
     if header.first >= header.states {
-        return refuse(FileCause::Header, 2);
+        return Err(FileCause::Header.at(2));
     }
-    if header.divisor < 1 || header.divisor > MAX_DIVISOR {
-        return refuse(FileCause::Header, 4);
+    if !(1..=MAX_DIVISOR).contains(&header.divisor) {
+        return Err(FileCause::Header.at(4));
     }
-    if header.columns < 1 || header.columns as usize > MAX_COLUMNS {
-        return refuse(FileCause::Header, 6);
+    if !(1..=MAX_COLUMNS).contains(&usize::from(header.columns)) {
+        return Err(FileCause::Header.at(6));
     }
     if bytes[7] != 0 {
-        return refuse(FileCause::Header, 7);
+        return Err(FileCause::Header.at(7));
     }
     Ok(header)
 }
 
-fn check_field(bytes: &[u8], end: usize, at: usize) -> Result<u16, FileFault>
-    requires { (at < 2 ^ 20) × (end ≤ length bytes.now) }
-    ensures { result ≡ field_at bytes.now end at }
+// Where the pair of a state stands.
+fn pair_place(state: u16) -> usize
+    ensures { result ≡ pair_place state }
 {
-    if end < at + 2 {
-        return refuse(FileCause::Field, end);
-    }
-    Ok(word_at(bytes, at))
+    8 + 4 * usize::from(state)
+}
+
+// How many bytes a branch takes.
+pub fn branch_size(columns: u8) -> usize
+    ensures { result ≡ branch_size columns }
+{
+    4 + 2 * usize::from(columns)
 }
 
 // Whether a reward in two's complement lies within its limits.
@@ -84,154 +85,181 @@ fn fits_reward(bits: u16) -> bool
     bits.cast_signed().unsigned_abs() <= MAX_REWARD
 }
 
-fn check_rewards(bytes: &[u8], end: usize, from: usize, columns: u8) -> Result<(), FileFault>
-    requires { (from < 2 ^ 19) × (end ≤ length bytes.now) }
-    ensures { result ≡ rewards_at bytes.now end from columns }
-{
-    let mut at = from;
-    for i in 0..columns {
-        let bits = check_field(bytes, end, at)?;
-        if !fits_reward(bits) {
-            return refuse(FileCause::Field, at);
-        }
-        at += 2;
-    }
-    Ok(())
-}
-
-// The weight of the branch at an offset.
-fn check_branch(bytes: &[u8], header: Header, end: usize, at: usize) -> Result<u16, FileFault>
-    requires { (at < 2 ^ 18) × (end ≤ length bytes.now) }
-    ensures { result ≡ branch_at bytes.now header end at }
-{
-    let weight = check_field(bytes, end, at)?;
-    if weight < 1 || weight > header.divisor {
-        return refuse(FileCause::Field, at);
-    }
-    let next = check_field(bytes, end, at + 2)?;
-    if next >= header.states {
-        return refuse(FileCause::Field, at + 2);
-    }
-    check_rewards(bytes, end, at + 4, header.columns)?;
-    Ok(weight)
-}
-
-fn branch_size(columns: u8) -> usize
-    ensures { result ≡ branch_size columns }
-{
-    4 + 2 * columns as usize
-}
-
-// The sum of the weights of the branches from an offset on.
-fn check_branches(
-    bytes: &[u8],
+// A file up to the end of a state's block.
+#[derive(Drop)]
+struct Block<'a> {
+    bytes: &'a [u8],
     header: Header,
     end: usize,
-    from: usize,
-    count: u8,
-) -> Result<usize, FileFault>
-    requires { (from < 2 ^ 17) × ((count ≤ 8) × (end ≤ length bytes.now)) }
-    ensures { result ≡ branches_at bytes.now header end from count 0 }
-{
-    let mut sum: usize = 0;
-    let mut at = from;
-    for i in 0..count {
-        let weight = check_branch(bytes, header, end, at)?;
-        sum += weight as usize;
-        at += branch_size(header.columns);
-    }
-    Ok(sum)
+    ghost inside: { end ≤ length bytes.now },
+    ghost short: { end < 2 ^ 16 },
 }
 
-// The offset after the choice at an offset.
-fn check_choice(bytes: &[u8], header: Header, end: usize, at: usize) -> Result<usize, FileFault>
-    requires { (at < end) × ((end ≤ length bytes.now) × (end < 2 ^ 16)) }
-    ensures { result ≡ choice_at bytes.now header end at }
-{
-    let count = bytes[at];
-    if count < 1 || count as usize > MAX_BRANCHES {
-        return refuse(FileCause::Field, at);
-    }
-    let sum = check_branches(bytes, header, end, at + 1, count)?;
-    if sum != header.divisor as usize {
-        return refuse(FileCause::Sum, at);
-    }
-    Ok(at + 1 + count as usize * branch_size(header.columns))
-}
-
-fn check_choices(bytes: &[u8], header: Header, end: usize, from: usize) -> Result<(), FileFault>
-    requires { (end ≤ length bytes.now) × (end < 2 ^ 16) }
-    ensures { result ≡ choices_at bytes.now header end from 8 }
-{
-    let mut at = from;
-    for i in 0..MAX_CHOICES {
-        if at >= end {
-            return Ok(());
+impl Block<'_> {
+    // The field of two bytes at an offset.
+    fn field(&self, at: usize) -> Result<u16, FileFault>
+        ensures answer { result ≡ field_at self.now.bytes.now self.now.end at }
+        ensures inside { OnOk result (at + 2 ≤ self.now.end) }
+    {
+        if self.end.saturating_sub(at) < 2 {
+            return Err(FileCause::Field.at(self.end));
         }
-        at = check_choice(bytes, header, end, at)?;
+        Ok(word_at(self.bytes, at))
     }
-    if at < end {
-        return refuse(FileCause::Field, at);
-    }
-    Ok(())
-}
 
-// Whether the pair at an offset names a block that stands at `from`, is not empty and ends within the file.
-fn fits_pair(bytes: &[u8], at: usize, from: usize) -> bool
-    requires { (at + 3 < length bytes.now) × (from < 2 ^ 20) }
-    ensures { result ≡ pair_fits bytes.now at from }
-{
-    let size = word_at(bytes, at + 2) as usize;
-    word_at(bytes, at) as usize == from && 0 < size && from + size <= bytes.len()
-}
-
-fn check_pairs(bytes: &[u8], states: u16) -> Result<(), FileFault>
-    requires { (8 + 4 * states ≤ length bytes.now) × (length bytes.now < 2 ^ 16) }
-    ensures answer { result ≡ pairs_at bytes.now 8 (8 + 4 * states) states }
-    ensures inside { OnOk result ((i : ℕ) → i < states → block_end bytes.now (8 + 4 * i) ≤ length bytes.now) }
-{
-    let mut at = 8;
-    let mut from = 8 + 4 * states as usize;
-    for i in 0..states {
-        if !fits_pair(bytes, at, from) {
-            return refuse(FileCause::Pair, at);
+    fn check_rewards(&self, from: usize) -> Result<(), FileFault>
+        ensures { result ≡ rewards_at self.now.bytes.now self.now.end from self.now.header.columns }
+    {
+        for i in 0..usize::from(self.header.columns) {
+            let at = from + 2 * i;
+            let bits = self.field(at)?;
+            if !fits_reward(bits) {
+                return Err(FileCause::Field.at(at));
+            }
         }
-        from += word_at(bytes, at + 2) as usize;
-        at += 4;
+        Ok(())
     }
-    if from != bytes.len() {
-        return refuse(FileCause::Pair, at - 4);
+
+    // The weight of the branch at an offset.
+    fn check_branch(&self, at: usize) -> Result<u16, FileFault>
+        ensures { result ≡ branch_at self.now.bytes.now self.now.header self.now.end at }
+    {
+        let weight = self.field(at)?;
+        if !(1..=self.header.divisor).contains(&weight) {
+            return Err(FileCause::Field.at(at));
+        }
+        let next = self.field(at + 2)?;
+        if next >= self.header.states {
+            return Err(FileCause::Field.at(at + 2));
+        }
+        self.check_rewards(at + 4)?;
+        Ok(weight)
     }
-    Ok(())
+
+    // The sum of the weights of the branches from an offset on.
+    fn check_branches(&self, from: usize, count: u8) -> Result<usize, FileFault>
+        requires { from ≤ self.now.end }
+        ensures { result ≡ branches_at self.now.bytes.now self.now.header self.now.end from count 0 }
+    {
+        let size = branch_size(self.header.columns);
+        let mut sum = 0;
+        for i in 0..usize::from(count) {
+            sum += usize::from(self.check_branch(from + i * size)?);
+        }
+        Ok(sum)
+    }
+
+    // The offset after the choice at an offset.
+    fn check_choice(&self, at: usize) -> Result<usize, FileFault>
+        requires { at < self.now.end }
+        ensures { result ≡ choice_at self.now.bytes.now self.now.header self.now.end at }
+    {
+        let count = self.bytes[at];
+        if !(1..=MAX_BRANCHES).contains(&usize::from(count)) {
+            return Err(FileCause::Field.at(at));
+        }
+        let sum = self.check_branches(at + 1, count)?;
+        if sum != usize::from(self.header.divisor) {
+            return Err(FileCause::Sum.at(at));
+        }
+        Ok(at + 1 + usize::from(count) * branch_size(self.header.columns))
+    }
+
+    fn check_choices(&self, from: usize) -> Result<(), FileFault>
+        ensures { result ≡ choices_at self.now.bytes.now self.now.header self.now.end from 8 }
+    {
+        let mut at = from;
+        for _ in 0..MAX_CHOICES {
+            if at >= self.end {
+                return Ok(());
+            }
+            at = self.check_choice(at)?;
+        }
+        if at < self.end {
+            return Err(FileCause::Field.at(at));
+        }
+        Ok(())
+    }
 }
 
-fn check_blocks(bytes: &[u8], header: Header) -> Result<(), FileFault>
-    requires room { (8 + 4 * header.states ≤ length bytes.now) × (length bytes.now < 2 ^ 16) }
-    requires inside { (i : ℕ) → i < header.states → block_end bytes.now (8 + 4 * i) ≤ length bytes.now }
-    ensures { result ≡ blocks_at bytes.now header 8 header.states }
-{
-    let mut at = 8;
-    for i in 0..header.states {
-        let from = word_at(bytes, at) as usize;
-        let end = from + word_at(bytes, at + 2) as usize;
-        check_choices(bytes, header, end, from)?;
-        at += 4;
+// A file that has the pairs of all its states.
+#[derive(Drop)]
+struct File<'a> {
+    bytes: &'a [u8],
+    header: Header,
+    ghost room: { 8 + 4 * header.states ≤ length bytes.now },
+    ghost short: { length bytes.now < 2 ^ 16 },
+}
+
+impl File<'_> {
+    // Where the block that a state's pair names begins and ends.
+    fn block(&self, state: u16) -> Range<usize>
+        requires { state < self.now.header.states }
+        ensures start { result.start ≡ word self.now.bytes.now (pair_place state) }
+        ensures size { result.end ≡ block_end self.now.bytes.now (pair_place state) }
+    {
+        let pair = pair_place(state);
+        let start = usize::from(word_at(self.bytes, pair));
+        start..start + usize::from(word_at(self.bytes, pair + 2))
     }
-    Ok(())
+
+    // Whether the pair of a state names a block that stands at `from`, is not empty and ends within the file.
+    fn fits_pair(&self, state: u16, from: usize) -> bool
+        requires { state < self.now.header.states }
+        ensures { result ≡ pair_fits self.now.bytes.now (pair_place state) from }
+    {
+        let block = self.block(state);
+        block.start == from && !block.is_empty() && block.end <= self.bytes.len()
+    }
+
+    fn check_pairs(&self) -> Result<(), FileFault>
+        ensures answer { result ≡ pairs_at self.now.bytes.now 8 (8 + 4 * self.now.header.states) self.now.header.states }
+        ensures inside { OnOk result ((s : ℕ) → s < self.now.header.states → block_end self.now.bytes.now (pair_place s) ≤ length self.now.bytes.now) }
+    {
+        let states = self.header.states;
+        let mut from = pair_place(states);
+        for state in 0..states {
+            if !self.fits_pair(state, from) {
+                return Err(FileCause::Pair.at(pair_place(state)));
+            }
+            from = self.block(state).end;
+        }
+        if from != self.bytes.len() {
+            return Err(FileCause::Pair.at(pair_place(states) - 4));
+        }
+        Ok(())
+    }
+
+    fn check_blocks(&self) -> Result<(), FileFault>
+        requires { (s : ℕ) → s < self.now.header.states → block_end self.now.bytes.now (pair_place s) ≤ length self.now.bytes.now }
+        ensures { result ≡ blocks_at self.now.bytes.now self.now.header 8 self.now.header.states }
+    {
+        for state in 0..self.header.states {
+            let Range { start, end } = self.block(state);
+            let block = Block {
+                bytes: self.bytes,
+                header: self.header,
+                end,
+            };
+            block.check_choices(start)?;
+        }
+        Ok(())
+    }
 }
 
 fn first_fault(bytes: &[u8]) -> Result<(), FileFault>
     ensures { result ≡ check_result bytes.now }
 {
-    if bytes.len() < 8 || bytes.len() > MAX_FILE {
-        return refuse(FileCause::Size, 0);
+    if !(8..=MAX_FILE).contains(&bytes.len()) {
+        return Err(FileCause::Size.at(0));
     }
     let header = check_header(bytes)?;
-    if bytes.len() < 8 + 4 * header.states as usize {
-        return refuse(FileCause::Pair, 8);
+    if bytes.len() < pair_place(header.states) {
+        return Err(FileCause::Pair.at(8));
     }
-    check_pairs(bytes, header.states)?;
-    check_blocks(bytes, header)
+    let file = File { bytes, header };
+    file.check_pairs()?;
+    file.check_blocks()
 }
 
 // The first fault of a file in the order of its format, if any; none where the file is that of a table.
