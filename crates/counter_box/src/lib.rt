@@ -8,6 +8,7 @@ ghost use Rattle.tables.specs.CounterBox.{max_limit, max_chance, clamped, box_br
 ghost use Rattle.tables.proofs.CounterBox.{counter_box_facts};
 
 use mdp::{Model as DecisionModel, WholeBranch};
+use std::cmp::Ordering;
 
 pub const MAX_LIMIT: usize = 15;
 // in percent
@@ -66,7 +67,7 @@ fn outcome(weight: u16, next: usize, opened: u8, exposed: usize) -> WholeBranch
     WholeBranch {
         weight,
         next,
-        rewards: [opened as i16, -(exposed as i16), 0, 0],
+        rewards: [i16::from(opened), -(exposed as i16), 0, 0],
     }
 }
 
@@ -102,58 +103,39 @@ impl DecisionModel for CounterBox {
     }
 
     fn choices(&self, state: usize) -> Option<usize> {
-        if state < self.limit {
-            Some(2)
-        } else if state == self.limit {
-            Some(1)
-        } else {
-            None
+        match state.cmp(&self.limit) {
+            Ordering::Less => Some(2),
+            Ordering::Equal => Some(1),
+            Ordering::Greater => None,
         }
     }
 
     fn branches(&self, state: usize, choice: usize) -> Option<usize> {
-        if state < self.limit {
-            match choice {
-                ENTER => Some(2),
-                WAIT => Some(1),
-                _ => None,
-            }
-        } else if state == self.limit {
-            match choice {
-                RESET => Some(1),
-                _ => None,
-            }
-        } else {
-            None
+        match (state.cmp(&self.limit), choice) {
+            (Ordering::Less, ENTER) => Some(2),
+            (Ordering::Less, WAIT) | (Ordering::Equal, RESET) => Some(1),
+            _ => None,
         }
     }
 
     fn weight(&self, state: usize, choice: usize, branch: usize) -> Option<u16> {
-        let whole = self.branch(state, choice, branch)?;
-        Some(whole.weight)
+        self.branch(state, choice, branch).map(|whole| whole.weight)
     }
 
     fn next(&self, state: usize, choice: usize, branch: usize) -> Option<usize> {
-        let whole = self.branch(state, choice, branch)?;
-        Some(whole.next)
+        self.branch(state, choice, branch).map(|whole| whole.next)
     }
 
     fn reward(&self, state: usize, choice: usize, branch: usize, column: usize) -> Option<i16> {
         let whole = self.branch(state, choice, branch)?;
-        if column < COLUMNS {
-            Some(whole.rewards[column])
-        } else {
-            None
-        }
+        whole.rewards[..COLUMNS].get(column).copied()
     }
 
     fn branch(&self, state: usize, choice: usize, branch: usize) -> Option<WholeBranch> {
-        if state < self.limit {
-            self.open_branch(state, choice, branch)
-        } else if state == self.limit {
-            full_branch(choice, branch)
-        } else {
-            None
+        match state.cmp(&self.limit) {
+            Ordering::Less => self.open_branch(state, choice, branch),
+            Ordering::Equal => full_branch(choice, branch),
+            Ordering::Greater => None,
         }
     }
 }

@@ -7,9 +7,6 @@ use Rattle.mdp.specs.Limits.{max_states, max_columns, max_reward}
 use Rattle.mdp.specs.Table.{BranchFacts, ChoiceFacts, StateFacts, Facts}
 use Rattle.pile_tests.specs.Still.{still_choice, still_state, still_table}
 
-all_replicate : {X : Type 0} (P : X → Type 0) (x : X) → P x → (n : ℕ) → All P (replicate n x)
-all_replicate P x h n = All-replicate P n x h
-
 module _ (states columns : ℕ) (states-low : 1 ≤ states) (states-high : states ≤ max_states) (columns_low : 1 ≤ columns) (columns_high : columns ≤ max_columns) where
   choice_facts : ChoiceFacts states 1 columns (still_choice columns)
   choice_facts = record {
@@ -22,7 +19,7 @@ module _ (states columns : ℕ) (states-low : 1 ≤ states) (states-high : state
         weight_high = omega arith;
         next_in = omega arith;
         rewards_all = length-replicate columns (pos 0);
-        rewards_small = all_replicate (λ r. unsigned_abs r ≤ max_reward) (pos 0) (omega arith) columns;
+        rewards_small = All-replicate (λ r. unsigned_abs r ≤ max_reward) columns (pos 0) (omega arith);
       },
       tt,
     );
@@ -42,5 +39,5 @@ module _ (states columns : ℕ) (states-low : 1 ≤ states) (states-high : state
         divisor_high = omega arith;
         columns_low = columns_low;
         columns_high = columns_high;
-        each = subst (λ n. All (StateFacts n 1 columns) (replicate states (still_state columns))) (sym e) (all_replicate (StateFacts states 1 columns) (still_state columns) state_facts states);
+        each = subst (λ n. All (StateFacts n 1 columns) (replicate states (still_state columns))) (sym e) (All-replicate (StateFacts states 1 columns) states (still_state columns) state_facts);
       }

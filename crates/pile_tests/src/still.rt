@@ -30,13 +30,7 @@ impl Still {
     fn has(&self, state: usize, choice: usize, branch: usize) -> bool
         ensures { branch_of (still_table self.now.states self.now.columns) state choice branch ≡ (if result then Some (still_branch self.now.columns) else None) }
     {
-        if state >= self.states {
-            return false;
-        }
-        if choice > 0 {
-            return false;
-        }
-        branch == 0
+        state < self.states && choice == 0 && branch == 0
     }
 }
 
@@ -62,40 +56,22 @@ impl DecisionModel for Still {
     }
 
     fn choices(&self, state: usize) -> Option<usize> {
-        if state < self.states { Some(1) } else { None }
+        (state < self.states).then_some(1)
     }
 
     fn branches(&self, state: usize, choice: usize) -> Option<usize> {
-        if state < self.states {
-            match choice {
-                0 => Some(1),
-                _ => None,
-            }
-        } else {
-            None
-        }
+        (state < self.states && choice == 0).then_some(1)
     }
 
     fn weight(&self, state: usize, choice: usize, branch: usize) -> Option<u16> {
-        if self.has(state, choice, branch) {
-            Some(1)
-        } else {
-            None
-        }
+        self.has(state, choice, branch).then_some(1)
     }
 
     fn next(&self, state: usize, choice: usize, branch: usize) -> Option<usize> {
-        if self.has(state, choice, branch) {
-            Some(0)
-        } else {
-            None
-        }
+        self.has(state, choice, branch).then_some(0)
     }
 
     fn reward(&self, state: usize, choice: usize, branch: usize, column: usize) -> Option<i16> {
-        if !self.has(state, choice, branch) {
-            return None;
-        }
-        if column < self.columns { Some(0) } else { None }
+        (self.has(state, choice, branch) && column < self.columns).then_some(0)
     }
 }

@@ -1,8 +1,8 @@
 -- What the answers to questions have by the facts of the table, and what a whole branch is.
-use Rattle.std.proofs.Common.{◌≡◌, ℕ, zero, suc, ◌<◌, ◌≤◌, List, [], ◌∷◌, length, get_or, ℤ, pos, nat_abs, IfSome, Some, None, All, Option, unwrap_or, sym, refl, ap, ◌∙◌, subst, arith}
+use Rattle.std.proofs.Common.{◌≡◌, ℕ, zero, suc, ◌<◌, ◌≤◌, List, [], ◌∷◌, length, take, get_or, ℤ, pos, nat_abs, IfSome, Some, None, All, Option, unwrap_or, sym, refl, ap, ◌∙◌, subst, arith}
 use Rattle.std.specs.Option.{option_map}
 use Rattle.std.specs.List.{slice_get}
-use Rattle.std.proofs.lemmas.Option.{slice_get-get_or, slice_get_past}
+use Rattle.std.proofs.lemmas.Option.{slice_get-get_or}
 use Rattle.std.proofs.lemmas.List.Elements.{All-head, All-tail, All-from_recursion}
 use Rattle.mdp.specs.declared.WholeBranch.{WholeBranch}
 use Rattle.mdp.specs.Limits.{max_columns, max_reward}
@@ -92,6 +92,14 @@ all_rewards_at rs (suc (suc zero)) l = value_getD rs 2
 all_rewards_at rs (suc (suc (suc zero))) l = value_getD rs 3
 all_rewards_at rs (suc (suc (suc (suc j)))) l = absurd (omega arith)
 
+all_rewards_taken : (rs : List ℤ) → length rs ≤ max_columns → take (length rs) (all_rewards rs) ≡ rs
+all_rewards_taken [] l = refl
+all_rewards_taken (p ∷ []) l = refl
+all_rewards_taken (p ∷ q ∷ []) l = refl
+all_rewards_taken (p ∷ q ∷ r ∷ []) l = refl
+all_rewards_taken (p ∷ q ∷ r ∷ v ∷ []) l = refl
+all_rewards_taken (p ∷ q ∷ r ∷ v ∷ w ∷ rs) l = absurd (omega arith)
+
 -- the parts of a branch, by the whole of it
 module _ (t : Table) (s c b : ℕ) where
   pub weight_by_whole : option_map (λ w. w.weight) (whole_branch t s c b) ≡ weight_of t s c b
@@ -109,12 +117,14 @@ module _ (t : Table) (s c b : ℕ) where
   pub reward_by_whole : (i : ℕ) → i < t.columns → Facts t → option_map (λ w. get_or w.rewards i (pos 0)) (whole_branch t s c b) ≡ reward_of t s c b i
   reward_by_whole i l f = ap (option_map (λ (w : WholeBranch). get_or w.rewards i (pos 0))) (whole_branch_is t s c b) ∙ reward_by i l f.columns_high (branch_of t s c b) (branch_found t s c b f)
 
-  pub reward_read : (i : ℕ) (w : WholeBranch) → i < t.columns → Facts t → Some w ≡ whole_branch t s c b → Some (get_or w.rewards i (pos 0)) ≡ reward_of t s c b i
-  reward_read i w l f e = ap (option_map (λ (x : WholeBranch). get_or x.rewards i (pos 0))) e ∙ reward_by_whole i l f
+  reward_of_whole : (i : ℕ) (w : WholeBranch) → t.columns ≤ max_columns → (o : Option Branch) → IfSome o (InTable t) → Some w ≡ option_map whole_of o → slice_get (take t.columns w.rewards) i ≡ bind o (λ x. slice_get x.rewards i)
+  reward_of_whole i w h None f e = let z : ◌≡◌ {A = ℕ} 0 1 = cc in absurd (omega arith)
+  reward_of_whole i w h (Some x) f e =
+      let is : w ≡ whole_of x = cc in
+      let k = f.rewards_all in
+      ap (λ (v : WholeBranch). slice_get (take t.columns v.rewards) i) is
+      ∙ (ap (λ n. slice_get (take n (all_rewards x.rewards)) i) (sym k) ∙ ap (λ rs. slice_get rs i) (all_rewards_taken x.rewards (omega arith)))
 
-  no_reward : (i : ℕ) → t.columns ≤ i → (o : Option Branch) → IfSome o (InTable t) → bind o (λ x. slice_get x.rewards i) ≡ None
-  no_reward i l None f = refl
-  no_reward i l (Some x) f = let e = f.rewards_all in slice_get_past x.rewards i (omega arith)
-
-  pub reward_past : (i : ℕ) → t.columns ≤ i → Facts t → reward_of t s c b i ≡ None
-  reward_past i l f = no_reward i l (branch_of t s c b) (branch_found t s c b f)
+  -- a reward, or none in a column that the table lacks
+  pub reward_among : (i : ℕ) (w : WholeBranch) → Facts t → Some w ≡ whole_branch t s c b → slice_get (take t.columns w.rewards) i ≡ reward_of t s c b i
+  reward_among i w f e = reward_of_whole i w f.columns_high (branch_of t s c b) (branch_found t s c b f) (e ∙ whole_branch_is t s c b)

@@ -1,16 +1,17 @@
 -- The counter box's table has the facts, and what is asked of it.
-use Rattle.std.proofs.Common.{◌≡◌, ℕ, ◌+◌, ◌-◌, ◌<◌, ◌≤◌, ltb, List, [], ◌∷◌, map, length, pos, neg_ℤ, nat_abs, get_or, Some, None, All, Option, sym, refl, ap, ◌∙◌, subst, arith}
+use Rattle.std.proofs.Common.{◌≡◌, ℕ, ◌+◌, ◌-◌, ◌<◌, ◌≤◌, ltb, List, [], ◌∷◌, map, length, pos, neg_ℤ, nat_abs, get_or, Some, None, All, Option, Ordering, Less, Equal, Greater, nat_cmp, sym, refl, ap, ◌∙◌, subst, arith}
+use Rattle.std.specs.Cmp.{ranks}
 use Rattle.std.specs.Option.{option_map}
+use Rattle.std.specs.Ordering.{MatchOrdering}
 use Rattle.std.specs.List.{slice_get, range_with_len}
 use Rattle.std.proofs.lemmas.Option.{slice_get-get_or, slice_get_past}
 use Rattle.std.proofs.lemmas.List.FromFn.{length-map-range_with_len, get_or-map-range_with_len}
 use Rattle.std.proofs.lemmas.List.Elements.{All-map, All-from_recursion}
 use Rattle.std.proofs.lemmas.Bool.{cond-true, cond-false, cond_both, ltb-true, lt-ltb, le-ltb}
-use Rattle.mdp.specs.declared.WholeBranch.{WholeBranch}
 use Rattle.mdp.specs.Limits.{max_reward}
 use Rattle.mdp.specs.Table.{State, BranchFacts, ChoiceFacts, StateFacts, Facts}
 use Rattle.mdp.specs.Questions.{bind, state_of, choice_count, branch_count, whole_branch}
-use Rattle.tables.specs.CounterBox.{max_limit, max_chance, percent, reset_exposure, box_branch, enter, open_state, full_state, box_state, branch_in, counter_box}
+use Rattle.tables.specs.CounterBox.{max_limit, max_chance, percent, reset_exposure, box_branch, enter, open_state, full_state, box_state, counter_box}
 use Rattle.tables.specs.Whole.{whole_of}
 use Rattle.tables.proofs.Asked.{whole_branch_is}
 use Rattle.tables.proofs.Kept.{abs_neg}
@@ -94,45 +95,26 @@ module _ (n g : ℕ) where
       let e = box_states in
       slice_get-get_or (counter_box n g).states s [] (omega arith) ∙ ap Some (get_or-map-range_with_len (box_state n g) 0 (n + 1) s s [] (omega arith) (omega arith))
 
-  box_open : (s : ℕ) → s < n → state_of (counter_box n g) s ≡ Some (open_state g s)
-  box_open s h = box_state_in s (omega arith) ∙ ap Some (cond-true (ltb s n) (open_state g s) full_state (lt-ltb s n h))
+  -- a state by the order of its number and the limit
+  abbrev pub ranked : ℕ → Ordering → Option State
+  ranked s Less = Some (open_state g s)
+  ranked s Equal = Some full_state
+  ranked s Greater = None
 
-  box_full : (s : ℕ) → s ≡ n → state_of (counter_box n g) s ≡ Some full_state
-  box_full s e = box_state_in s (omega arith) ∙ ap Some (cond-false (ltb s n) (open_state g s) full_state (le-ltb s n (omega arith)))
+  ranked_at : (s : ℕ) (o : Ordering) → MatchOrdering o (s < n) (s ≡ n) (n < s) → state_of (counter_box n g) s ≡ ranked s o
+  ranked_at s Less h = box_state_in s (omega arith) ∙ ap Some (cond-true (ltb s n) (open_state g s) full_state (lt-ltb s n h))
+  ranked_at s Equal h = box_state_in s (omega arith) ∙ ap Some (cond-false (ltb s n) (open_state g s) full_state (le-ltb s n (omega arith)))
+  ranked_at s Greater h = let e = box_states in slice_get_past (counter_box n g).states s (omega arith)
 
-  box_past : (s : ℕ) → n < s → state_of (counter_box n g) s ≡ None
-  box_past s h = let e = box_states in slice_get_past (counter_box n g).states s (omega arith)
+  module _ (s : ℕ) (o : Ordering) (e : o ≡ nat_cmp s n) where
+    box_ranked : state_of (counter_box n g) s ≡ ranked s o
+    box_ranked = ranked_at s o (subst (λ r. MatchOrdering r (s < n) (s ≡ n) (n < s)) (sym e) (ranks s n))
 
-  -- a state below the limit, at it and past it
-  pub choices_open : (s : ℕ) → s < n → choice_count (counter_box n g) s ≡ Some 2
-  choices_open s h = ap (option_map length) (box_open s h)
+    pub choices_ranked : choice_count (counter_box n g) s ≡ option_map length (ranked s o)
+    choices_ranked = ap (option_map length) box_ranked
 
-  pub choices_full : (s : ℕ) → s ≡ n → choice_count (counter_box n g) s ≡ Some 1
-  choices_full s e = ap (option_map length) (box_full s e)
+    pub branches_ranked : (c : ℕ) → branch_count (counter_box n g) s c ≡ option_map length (bind (ranked s o) (λ cs. slice_get cs c))
+    branches_ranked c = ap (λ r. option_map length (bind r (λ cs. slice_get cs c))) box_ranked
 
-  pub choices_past : (s : ℕ) → n < s → choice_count (counter_box n g) s ≡ None
-  choices_past s h = ap (option_map length) (box_past s h)
-
-  abbrev counted : ℕ → Option State → Option ℕ
-  counted c o = option_map length (bind o (λ cs. slice_get cs c))
-
-  pub branches_open : (s c : ℕ) → s < n → branch_count (counter_box n g) s c ≡ option_map length (slice_get (open_state g s) c)
-  branches_open s c h = ap (counted c) (box_open s h)
-
-  pub branches_full : (s c : ℕ) → s ≡ n → branch_count (counter_box n g) s c ≡ option_map length (slice_get full_state c)
-  branches_full s c e = ap (counted c) (box_full s e)
-
-  pub branches_past : (s c : ℕ) → n < s → branch_count (counter_box n g) s c ≡ None
-  branches_past s c h = ap (counted c) (box_past s h)
-
-  abbrev asked : ℕ → ℕ → Option State → Option WholeBranch
-  asked c b o = option_map whole_of (bind (bind o (λ cs. slice_get cs c)) (λ bs. slice_get bs b))
-
-  pub whole_open : (s c b : ℕ) → s < n → whole_branch (counter_box n g) s c b ≡ option_map whole_of (branch_in (open_state g s) c b)
-  whole_open s c b h = whole_branch_is (counter_box n g) s c b ∙ ap (asked c b) (box_open s h)
-
-  pub whole_full : (s c b : ℕ) → s ≡ n → whole_branch (counter_box n g) s c b ≡ option_map whole_of (branch_in full_state c b)
-  whole_full s c b e = whole_branch_is (counter_box n g) s c b ∙ ap (asked c b) (box_full s e)
-
-  pub whole_past : (s c b : ℕ) → n < s → whole_branch (counter_box n g) s c b ≡ None
-  whole_past s c b h = whole_branch_is (counter_box n g) s c b ∙ ap (asked c b) (box_past s h)
+    pub whole_ranked : (c b : ℕ) → whole_branch (counter_box n g) s c b ≡ option_map whole_of (bind (bind (ranked s o) (λ cs. slice_get cs c)) (λ bs. slice_get bs b))
+    whole_ranked c b = whole_branch_is (counter_box n g) s c b ∙ ap (λ r. option_map whole_of (bind (bind r (λ cs. slice_get cs c)) (λ bs. slice_get bs b))) box_ranked
