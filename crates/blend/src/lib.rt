@@ -1,13 +1,15 @@
 // Blends: one number from the weighted amounts of a choice's branches.
 #![tactic(auto)]
 
-ghost use Rattle.std.specs.Prelude.{◌≡◌, ℕ, ◌+◌, ◌<◌, ◌≤◌, List, ℤ, pos, unsigned_abs, refl};
+ghost use Rattle.std.specs.Prelude.{◌≡◌, ℕ, ◌+◌, ◌*◌, ◌<◌, ◌≤◌, List, ℤ, pos, unsigned_abs, refl};
 ghost use Rattle.std.proofs.Common.{zero-le};
 ghost use Rattle.mdp.specs.Limits.{max_divisor};
-ghost use Rattle.plans.specs.Blends.{Weighed, Mean, running, Lawful, more_by, floor_div, ceiling_div, mean_up, mean_down};
+ghost use Rattle.plans.specs.Blends.{Weighed, Mean, running, Lawful, mean_of, more_by, floor_div, ceiling_div};
 ghost use Rattle.plans.proofs.Amounts.{more_within};
 ghost use Rattle.plans.proofs.Means.{means_lawful};
 ghost use Rattle.blend.specs.Running.{max_amount, MayAdd, MayFinish, Bounded};
+
+use std::marker::PhantomData;
 
 pub trait Blend {
     type Running: Drop;
@@ -44,11 +46,16 @@ pub trait Blend {
         ensures { result ≡ outcome running divisor };
 }
 
-fn plus_weighted(sum: i64, weight: u16, amount: i64) -> i64
-    requires { MayAdd Bounded sum weight amount }
-    ensures { result ≡ more_by sum weight amount }
-{
-    sum + i64::from(weight) * amount
+// How a sum of weighted amounts is divided by the sum of their weights.
+trait Rounding {
+    ghost divided: { ℤ → ℕ → ℤ };
+
+    ghost lawful: { Lawful (mean_of (pos 0) more_by divided) };
+
+    fn divide(sum: i64, divisor: u16) -> i64
+        requires small { unsigned_abs sum ≤ max_divisor * max_amount }
+        requires positive { 0 < divisor }
+        ensures { result ≡ divided sum divisor };
 }
 
 fn floor_divided(sum: i64, divisor: u16) -> i64
@@ -59,61 +66,56 @@ fn floor_divided(sum: i64, divisor: u16) -> i64
     sum.div_euclid(i64::from(divisor))
 }
 
-// The mean, rounded up.
-pub struct Up {}
+pub struct Floor {}
 
-impl Blend for Up {
-    type Running = i64;
-
-    ghost none = { pos 0 };
-
-    ghost more = { more_by };
-
-    ghost outcome = { ceiling_div };
-
-    ghost mean = { mean_up };
-
-    ghost means = { λ xs d. refl };
-
-    ghost lawful = { means_lawful.0 };
-
-    ghost after = { Bounded };
-
-    ghost starts = { zero-le };
-
-    ghost adds = { λ r n w a h room small. more_within max_amount r n w a h small };
-
-    fn start() -> i64 {
-        0
-    }
-
-    fn add(running: i64, weight: u16, amount: i64) -> i64 {
-        plus_weighted(running, weight, amount)
-    }
-
-    fn finish(running: i64, divisor: u16) -> i64 {
-        -floor_divided(-running, divisor)
-    }
-}
-
-// The mean, rounded down.
-pub struct Down {}
-
-impl Blend for Down {
-    type Running = i64;
-
-    ghost none = { pos 0 };
-
-    ghost more = { more_by };
-
-    ghost outcome = { floor_div };
-
-    ghost mean = { mean_down };
-
-    ghost means = { λ xs d. refl };
+impl Rounding for Floor {
+    ghost divided = { floor_div };
 
     ghost lawful = { means_lawful.1 };
 
+    fn divide(sum: i64, divisor: u16) -> i64 {
+        floor_divided(sum, divisor)
+    }
+}
+
+pub struct Ceiling {}
+
+impl Rounding for Ceiling {
+    ghost divided = { ceiling_div };
+
+    ghost lawful = { means_lawful.0 };
+
+    fn divide(sum: i64, divisor: u16) -> i64 {
+        -floor_divided(-sum, divisor)
+    }
+}
+
+// The mean of the amounts by their weights.
+pub struct WeightedMean<R> {
+    rounding: PhantomData<R>,
+}
+
+// The mean, rounded up.
+pub type Up = WeightedMean<Ceiling>;
+
+// The mean, rounded down.
+pub type Down = WeightedMean<Floor>;
+
+impl<R: Rounding> Blend for WeightedMean<R> {
+    type Running = i64;
+
+    ghost none = { pos 0 };
+
+    ghost more = { more_by };
+
+    ghost outcome = { R.Rounding.divided };
+
+    ghost mean = { mean_of (pos 0) more_by R.Rounding.divided };
+
+    ghost means = { λ xs d. refl };
+
+    ghost lawful = { R.Rounding.lawful };
+
     ghost after = { Bounded };
 
     ghost starts = { zero-le };
@@ -125,10 +127,10 @@ impl Blend for Down {
     }
 
     fn add(running: i64, weight: u16, amount: i64) -> i64 {
-        plus_weighted(running, weight, amount)
+        running + i64::from(weight) * amount
     }
 
     fn finish(running: i64, divisor: u16) -> i64 {
-        floor_divided(running, divisor)
+        R::divide(running, divisor)
     }
 }

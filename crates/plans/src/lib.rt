@@ -5,20 +5,37 @@ ghost use Rattle.plans.specs.Claims.{CeilingBoundsValue, CeilingIsValue, PartIsV
 ghost use Rattle.plans.specs.Claims.{MeansLawful, MeanUpLeast, MeanDownGreatest};
 ghost use Rattle.plans.specs.Claims.{CeilingBounds, CeilingNear, PartReached, PartNear, OutOfReach, MissRefutes, WithinReach, ClearAchieves, MixtureValid, HorizonCovers};
 
+pub const MAX_OBJECTIVES: usize = 4;
+
 // A column of rewards, the number of steps whose rewards count, and the target in grains (65,536 to a unit of reward).
-#[derive(Clone, Copy)]
+#[derive(Clone, Copy, PartialEq, Eq, Debug)]
 pub struct Objective {
     pub column: usize,
     pub bound: usize,
     pub target: i64,
 }
 
+impl Objective {
+    pub const ZERO: Objective = Objective {
+        column: 0,
+        bound: 0,
+        target: 0,
+    };
+}
+
 // What a sweep knows of a state at a step: the ceiling of its weighted rewards, and the parts of the point that the
 // choice taken reaches, one for each objective.
-#[derive(Clone, Copy)]
+#[derive(Clone, Copy, PartialEq, Eq, Debug)]
 pub struct Row {
     pub ceiling: i64,
-    pub parts: [i64; 4],
+    pub parts: [i64; MAX_OBJECTIVES],
+}
+
+impl Row {
+    pub const ZERO: Row = Row {
+        ceiling: 0,
+        parts: [0; MAX_OBJECTIVES],
+    };
 }
 
 // What every blend does, and what the two means are.
