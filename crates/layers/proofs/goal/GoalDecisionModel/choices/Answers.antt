@@ -1,6 +1,7 @@
-use Rattle.std.proofs.Common.{sym, ◌∙◌}
+use Rattle.std.proofs.Common.{sym, ap, ◌∙◌}
 use Rattle.tables.proofs.Goal.{goal_choices}
+use Rattle.mdp.specs.Questions.{choice_count}
 use Rattle.layers.proofs.goal.GoalDecisionModel.choices.Goals as goal
 
 pub returns : goal.returns
-returns g c = c.choices.ensures ∙ sym (goal_choices c.args.self.now.on c.args.self.now.marks.marked (g.M.Model.table c.args.self.now.below) c.args.state c.state_below.result c.state_below.ensures)
+returns g c = c.choices.ensures ∙ (ap (choice_count (g.M.Model.table c.args.self.now.below)) c.state_below.ensures ∙ sym (goal_choices (g.M.Model.table c.args.self.now.below) c.args.self.now.marks c.args.state))

@@ -1,10 +1,15 @@
-use Rattle.std.proofs.Common.{sym, ap, ◌∙◌}
-use Rattle.mdp.specs.Table.{Table}
-use Rattle.layers.proofs.Halves.{none_view, room_columns}
+use Rattle.std.proofs.Common.{◌≡◌, ◌+◌, ◌*◌, cond, length, sym, ap, ◌∙◌, arith}
+use Rattle.tables.proofs.Goal.{goal_columns}
 use Rattle.layers.proofs.goal.GoalDecisionModel.columns.Goals as goal
 
-pub returns-in-Some : goal.returns-in-Some
-returns-in-Some g c = room_columns c.args.self.now.on c.args.self.now.marks.marked (g.M.Model.table c.args.self.now.below) c.in-Some.size c.in-Some.ensures
+pub returns-then-is_some : goal.returns-then-is_some
+returns-then-is_some g c =
+    let t = g.M.Model.table c.args.self.now.below in
+    let e = goal_columns t c.args.self.now.marks ∙ ap (λ b. cond b (t.columns + 1) t.columns) (sym c.if-is_some.ensures) in
+    omega arith
 
-pub returns-in-None : goal.returns-in-None
-returns-in-None g c = c.columns.ensures ∙ sym (ap (λ (u : Table). u.columns) (none_view c.args.self.now.on c.args.self.now.marks.marked (g.M.Model.table c.args.self.now.below) c.in-None.ensures))
+pub returns-else-is_some : goal.returns-else-is_some
+returns-else-is_some g c =
+    let t = g.M.Model.table c.args.self.now.below in
+    let e = goal_columns t c.args.self.now.marks ∙ ap (λ b. cond b (t.columns + 1) t.columns) (sym c.if-is_some.ensures) in
+    omega arith

@@ -1,6 +1,6 @@
-use Rattle.std.proofs.Common.{false, refl}
+use Rattle.std.proofs.Common.{refl}
 use Rattle.tables.proofs.Mirror.{mirror_idle}
 use Rattle.layers.proofs.mirror.Mirror.idle.Goals as goal
 
-pub returns : goal.returns
-returns g c = record { below = refl; table = mirror_idle false 0 (g.M.Model.table c.args.below) refl }
+pub returns-clause-table : goal.returns-clause-table
+returns-clause-table g c = mirror_idle (g.M.Model.table c.args.below)

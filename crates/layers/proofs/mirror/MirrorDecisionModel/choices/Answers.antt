@@ -3,4 +3,4 @@ use Rattle.tables.proofs.Mirror.{mirror_choices}
 use Rattle.layers.proofs.mirror.MirrorDecisionModel.choices.Goals as goal
 
 pub returns : goal.returns
-returns g c = c.choices.ensures ∙ sym (mirror_choices c.args.self.now.on c.args.self.now.column (g.M.Model.table c.args.self.now.below) c.args.state)
+returns g c = c.choices.ensures ∙ sym (mirror_choices (g.M.Model.table c.args.self.now.below) c.args.state c.args.self.now.column)

@@ -1,10 +1,15 @@
-use Rattle.std.proofs.Common.{sym, ap, ◌∙◌}
-use Rattle.mdp.specs.Table.{Table}
-use Rattle.tables.proofs.Mirror.{mirror_columns, mirror_idle}
+use Rattle.std.proofs.Common.{◌≡◌, ◌+◌, ◌*◌, cond, length, sym, ap, ◌∙◌, arith}
+use Rattle.tables.proofs.Mirror.{mirror_columns}
 use Rattle.layers.proofs.mirror.MirrorDecisionModel.columns.Goals as goal
 
-pub returns-in-Some : goal.returns-in-Some
-returns-in-Some g c = mirror_columns c.args.self.now.on c.args.self.now.column (g.M.Model.table c.args.self.now.below) c.in-Some.last c.in-Some.ensures
+pub returns-then-is_some : goal.returns-then-is_some
+returns-then-is_some g c =
+    let t = g.M.Model.table c.args.self.now.below in
+    let e = mirror_columns t c.args.self.now.column ∙ ap (λ b. cond b (t.columns + 1) t.columns) (sym c.if-is_some.ensures) in
+    omega arith
 
-pub returns-in-None : goal.returns-in-None
-returns-in-None g c = c.columns.ensures ∙ sym (ap (λ (u : Table). u.columns) (mirror_idle c.args.self.now.on c.args.self.now.column (g.M.Model.table c.args.self.now.below) c.in-None.ensures))
+pub returns-else-is_some : goal.returns-else-is_some
+returns-else-is_some g c =
+    let t = g.M.Model.table c.args.self.now.below in
+    let e = mirror_columns t c.args.self.now.column ∙ ap (λ b. cond b (t.columns + 1) t.columns) (sym c.if-is_some.ensures) in
+    omega arith
