@@ -75,6 +75,7 @@ fn check_fit<M: DecisionModel>(below: &M, marks: &Marks) -> Result<(), GoalFault
     }
 }
 
+#[tactic(auto, unfolding(tables::specs::Goal::goal_view))]
 impl<M: DecisionModel> Goal<M> {
     pub fn idle(below: M) -> Goal<M>
         ensures below { result.below ≡ below }
@@ -116,6 +117,7 @@ impl<M: DecisionModel> Goal<M> {
     }
 }
 
+#[tactic(auto, using(tables::proofs::Goal::goal_passed_on))]
 impl<M: DecisionModel> DecisionModel for Goal<M> {
     ghost table = { λ m. goal_view m.marks (M.Model.table m.below) };
 

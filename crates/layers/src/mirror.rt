@@ -40,6 +40,7 @@ fn check_fit<M: DecisionModel>(below: &M, column: usize) -> Result<(), MirrorFau
     Ok(())
 }
 
+#[tactic(auto, unfolding(tables::specs::Mirror::mirror_view))]
 impl<M: DecisionModel> Mirror<M> {
     pub fn idle(below: M) -> Mirror<M>
         ensures below { result.below ≡ below }
@@ -64,6 +65,7 @@ impl<M: DecisionModel> Mirror<M> {
     }
 }
 
+#[tactic(auto, using(tables::proofs::Mirror::mirror_passed_on))]
 impl<M: DecisionModel> DecisionModel for Mirror<M> {
     ghost table = { λ m. mirror_view m.column (M.Model.table m.below) };
 

@@ -1,5 +1,5 @@
 -- The goal's table has the facts, and what is asked of it.
-use Rattle.std.proofs.Common.{◌≡◌, ℕ, ◌+◌, ◌-◌, ◌<◌, ◌≤◌, Bool, true, false, cond, not, ◌&&◌, ◌||◌, leb, List, ◌++◌, length, ℤ, pos, nat_abs, is_some, Some, None, All, Option, sym, refl, ap, ◌∙◌, subst, arith, length-append}
+use Rattle.std.proofs.Common.{◌≡◌, ℕ, ◌+◌, ◌-◌, ◌<◌, ◌≤◌, Bool, true, false, cond, not, ◌&&◌, ◌||◌, leb, List, ◌++◌, length, ℤ, pos, nat_abs, is_some, Some, None, All, Option, sym, refl, ◌∙◌, subst, arith, length-append}
 use lib.ListN.{length-map}
 use Rattle.std.specs.Option.{option_map, ForSome}
 use Rattle.std.proofs.lemmas.Bool.{leb-true, leb-false}
@@ -134,3 +134,6 @@ module _ (t : Table) where
       pub goal_whole : t.columns < max_columns → whole_branch (goal_table marks t) s c b
           ≡ option_map (λ w. whole_extended w t.columns (goal_next marks n (leb n s) w.next) (goal_reward marks (leb n s) w.next)) (whole_branch t (state_below n s) c b)
       goal_whole l = extended_whole to earns (goal_follows marks t s) f c b l (goal_next marks n (leb n s)) (λ w. goal_reward marks (leb n s) w.next) (λ x. refl) (λ x k. refl)
+
+-- what the layer answers to a question that it passes on
+pub ruleset goal_passed_on = (goal_first, goal_divisor, goal_choices, goal_branches, goal_weight, goal_states, goal_columns)

@@ -1,5 +1,5 @@
 -- The mirror's table has the facts, and what is asked of it.
-use Rattle.std.proofs.Common.{◌≡◌, ℕ, zero, suc, ◌+◌, ◌<◌, ◌≤◌, List, [], ◌∷◌, map, length, get_or, ℤ, pos, neg_ℤ, nat_abs, cond, is_some, IfSome, Some, None, All, Option, sym, refl, ap, ◌∙◌, subst, arith}
+use Rattle.std.proofs.Common.{◌≡◌, ℕ, zero, suc, ◌+◌, ◌<◌, ◌≤◌, List, [], ◌∷◌, map, length, get_or, ℤ, pos, neg_ℤ, nat_abs, cond, is_some, IfSome, Some, None, All, Option, sym, refl, ap, ◌∙◌, arith}
 use lib.ListN.{length-map}
 use Rattle.std.specs.Option.{option_map, ForSome}
 use Rattle.std.specs.List.{slice_get}
@@ -119,3 +119,6 @@ module _ (t : Table) where
 
     pub mirror_small : (w : WholeBranch) → Some w ≡ whole_branch t s c b → nat_abs (get_or w.rewards j (pos 0)) ≤ max_reward
     mirror_small w k = small_getD w.rewards j (whole_rewards_small t s c b w f k)
+
+-- what the layer answers to a question that it passes on
+pub ruleset mirror_passed_on = (mirror_first, mirror_divisor, mirror_states, mirror_choices, mirror_branches, mirror_weight, mirror_next, mirror_columns)

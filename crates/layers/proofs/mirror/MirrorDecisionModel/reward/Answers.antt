@@ -17,6 +17,6 @@ returns-in_ok-reward-in-Some g c = on_last_some c.in-Some.mirrored c.args.self.n
 
 pub returns-in_default : goal.returns-in_default
 returns-in_default g c = elim c.in_default.branch [
-      in_default-via-in-Some+else-column-columns w ↦ on_reward w.in-Some.mirrored c.args.self.now.column (g.M.Model.table c.args.self.now.below) w.in-Some.is c.args.self.now.fits (g.M.Model.facts c.args.self.now.below) c.args.state c.args.choice c.args.branch c.args.column w.columns.result w.columns.ensures w.if-column-columns.false c.reward-in_default.result c.reward-in_default.ensures
-    | in_default-via-in_default w ↦ idle_asked (λ u. reward_of u c.args.state c.args.choice c.args.branch c.args.column) c.args.self.now.column (g.M.Model.table c.args.self.now.below) c.reward-in_default.result w.in_default.is c.reward-in_default.ensures
-    ]
+  | in_default-via-in-Some+else-column-columns w ↦ on_reward w.in-Some.mirrored c.args.self.now.column (g.M.Model.table c.args.self.now.below) w.in-Some.is c.args.self.now.fits (g.M.Model.facts c.args.self.now.below) c.args.state c.args.choice c.args.branch c.args.column w.columns.result w.columns.ensures w.if-column-columns.false c.reward-in_default.result c.reward-in_default.ensures
+  | in_default-via-in_default w ↦ idle_asked (λ u. reward_of u c.args.state c.args.choice c.args.branch c.args.column) c.args.self.now.column (g.M.Model.table c.args.self.now.below) c.reward-in_default.result w.in_default.is c.reward-in_default.ensures
+]
