@@ -81,6 +81,7 @@ fn full_branch(choice: usize, branch: usize) -> Option<WholeBranch>
     }
 }
 
+#[tactic(auto, using(tables::proofs::CounterBox::box_whole))]
 impl DecisionModel for CounterBox {
     ghost table = { λ m. counter_box m.limit m.chance };
 

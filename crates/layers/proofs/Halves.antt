@@ -1,85 +1,61 @@
--- What the goal layer answers, by what it has of the model below.
-use Rattle.std.proofs.Common.{◌≡◌, ℕ, ◌+◌, ◌*◌, ◌≤◌, Bool, true, not, ◌&&◌, leb, List, length, ℤ, Some, None, Option, sym, ap, ◌∙◌, subst, arith}
-use Rattle.std.specs.Option.{option_map}
+-- What the goal layer answers where it is on, by what it has of the model below.
+use Rattle.std.proofs.Common.{◌≡◌, ℕ, ◌≤◌, Bool, not, ◌&&◌, leb, List, length, ℤ, Some, None, Option, sym, ap, ◌∙◌, arith}
+use Rattle.std.specs.Option.{option_map, ForSome}
 use Rattle.mdp.specs.declared.WholeBranch.{WholeBranch}
 use Rattle.mdp.specs.Table.{Table, Facts}
 use Rattle.mdp.specs.Questions.{next_of, reward_of, whole_branch}
 use Rattle.tables.specs.Whole.{whole_extended}
-use Rattle.tables.specs.Goal.{max_marks, is_marked, state_below, goal_next, goal_reward, goal_fits, goal_view}
-use Rattle.tables.proofs.Places.{some_cond, none_cond}
+use Rattle.tables.specs.Goal.{max_marks, is_marked, state_below, goal_next, goal_reward, goal_table, GoalFits, goal_view}
 use Rattle.tables.proofs.Asked.{next_in, whole_next_in}
-use Rattle.tables.proofs.Goal.{small_reward, goal_idle, goal_few, goal_states, goal_columns, goal_nexts, goal_old_reward, goal_new_reward, goal_whole}
-use Rattle.layers.specs.declared.goal.Size.{Size}
-use Rattle.layers.specs.Fits.{goal_room}
+use Rattle.tables.proofs.Goal.{small_reward, goal_shown, goal_idle, goal_nexts, goal_old_reward, goal_new_reward, goal_whole}
 use Rattle.layers.proofs.Extended.{passed, passed_as, extended_as}
 
-module _ (on : Bool) (marks : List Bool) (t : Table) where
-  abbrev here : Size
-  here = record { states = length t.states; columns = t.columns }
+-- what is asked of the layer where it is off
+pub idle_asked : {Y : Type 0} (want : Table → Y) (o : Option (List Bool)) (t : Table) (q : Y) → None ≡ o → q ≡ want t → q ≡ want (goal_view o t)
+idle_asked want o t q e k = k ∙ (ap want (sym (goal_idle t)) ∙ ap (λ m. want (goal_view m t)) e)
 
-  -- without room it is the model below
-  pub none_view : None ≡ goal_room on t → goal_view on marks t ≡ t
-  none_view e = goal_idle on marks t (none_cond (on && goal_fits t) here e)
+-- where it is on with these marks, over n states
+module _ (marks : List Bool) (o : Option (List Bool)) (t : Table) (n : ℕ) (e : Some marks ≡ o) (k : n ≡ length t.states) (fits : ForSome o (λ _. GoalFits t)) (f : Facts t) where
+  pub next_low : (r c b m : ℕ) → Some m ≡ next_of t r c b → (n ≤ max_marks) × (m ≤ max_marks)
+  next_low r c b m p = let few = (fits marks (sym e)).0 in let h = next_in t r c b m f p in (omega arith, omega arith)
 
-  module _ (size : Size) (e : Some size ≡ goal_room on t) where
-    fits : (on && goal_fits t) ≡ true
-    fits = (some_cond (on && goal_fits t) size here e).0
+  pub whole_next_low : (r c b : ℕ) (w : WholeBranch) → Some w ≡ whole_branch t r c b → (n ≤ max_marks) × (w.next ≤ max_marks)
+  whole_next_low r c b w p = let few = (fits marks (sym e)).0 in let h = whole_next_in t r c b w f p in (omega arith, omega arith)
 
-    is_here : size ≡ here
-    is_here = (some_cond (on && goal_fits t) size here e).1
+  -- at the state r below that s stands for
+  module _ (s c b r : ℕ) (low : r ≡ state_below n s) where
+    abbrev met : Bool
+    met = leb n s
 
-    pub room_few : size.states ≤ max_marks
-    room_few = subst (λ z. z.states ≤ max_marks) (sym is_here) (goal_few on marks t fits)
+    on_asked : {X Y : Type 0} (answer : ℕ → X → Y) (ask : ℕ → X) (want : Table → Y) → want (goal_table marks t) ≡ answer (length t.states) (ask (state_below (length t.states) s)) → (q : X) → q ≡ ask r → answer n q ≡ want (goal_view o t)
+    on_asked answer ask want h q p =
+        ap (answer n) (p ∙ ap ask low)
+        ∙ (ap (λ z. answer z (ask (state_below z s))) k
+        ∙ (sym h ∙ (ap want (sym (goal_shown marks t)) ∙ ap (λ m. want (goal_view m t)) e)))
 
-    pub room_states : 2 * size.states ≡ length (goal_view on marks t).states
-    room_states = let k = ap (λ z. z.states) is_here in let h = goal_states on marks t fits in omega arith
+    pub on_next : (q : Option ℕ) → q ≡ next_of t r c b → option_map (goal_next marks n met) q ≡ next_of (goal_view o t) s c b
+    on_next = on_asked (λ z. option_map (goal_next marks z (leb z s))) (λ p. next_of t p c b) (λ u. next_of u s c b) (goal_nexts t marks f s c b)
 
-    pub room_columns : size.columns + 1 ≡ (goal_view on marks t).columns
-    room_columns = let k = ap (λ z. z.columns) is_here in let h = goal_columns on marks t fits in omega arith
+    pub on_next_some : (m m' : ℕ) → Some m ≡ next_of t r c b → m' ≡ goal_next marks n met m → Some m' ≡ next_of (goal_view o t) s c b
+    on_next_some m m' p h = ap Some h ∙ on_next (Some m) p
 
-    pub next_low : Facts t → (r c b m : ℕ) → Some m ≡ next_of t r c b → m ≤ max_marks
-    next_low f r c b m k = let h = next_in t r c b m f k in let few = goal_few on marks t fits in omega arith
+    pub on_reward : (i columns : ℕ) → columns ≡ t.columns → (i ≡ columns → ⊥) → (q : Option ℤ) → q ≡ reward_of t r c b i → q ≡ reward_of (goal_view o t) s c b i
+    on_reward i columns l d = on_asked (λ z x. x) (λ p. reward_of t p c b i) (λ u. reward_of u s c b i) (goal_old_reward t marks f s c b i (λ h. d (h ∙ sym l)))
 
-    pub whole_next_low : Facts t → (r c b : ℕ) (w : WholeBranch) → Some w ≡ whole_branch t r c b → w.next ≤ max_marks
-    whole_next_low f r c b w k = let h = whole_next_in t r c b w f k in let few = goal_few on marks t fits in omega arith
+    pub on_last : (i columns : ℕ) → columns ≡ t.columns → i ≡ columns → (q : Option ℕ) → q ≡ next_of t r c b → option_map (goal_reward marks met) q ≡ reward_of (goal_view o t) s c b i
+    on_last i columns l d = on_asked (λ z. option_map (goal_reward marks (leb z s))) (λ p. next_of t p c b) (λ u. reward_of u s c b i) (goal_new_reward t marks f s c b i (d ∙ l))
 
-    -- at the state r below that s stands for
-    module _ (f : Facts t) (s c b r : ℕ) (low : r ≡ state_below size.states s) where
-      at_here : {X Y : Type 0} (g : Size → X → Y) (ask : Table → ℕ → Option X) (want : Table → ℕ → Option Y) → want (goal_view on marks t) s ≡ option_map (g here) (ask t (state_below here.states s))
-          → (o : Option X) → o ≡ ask t r → option_map (g size) o ≡ want (goal_view on marks t) s
-      at_here g ask want h o k =
-          let r-is : r ≡ state_below here.states s = low ∙ ap (λ z. state_below z.states s) is_here in
-          ap (option_map (g size)) (k ∙ ap (ask t) r-is) ∙ (ap (λ z. option_map (g z) (ask t (state_below here.states s))) is_here ∙ sym h)
+    pub on_last_some : (i columns : ℕ) → columns ≡ t.columns → i ≡ columns → (m : ℕ) (v : ℤ) → Some m ≡ next_of t r c b → v ≡ goal_reward marks met m → Some (passed v) ≡ reward_of (goal_view o t) s c b i
+    on_last_some i columns l d m v p h = ap Some (passed_as v (goal_reward marks met m) (small_reward (not met && is_marked marks m)) h) ∙ on_last i columns l d (Some m) p
 
-      abbrev met : Bool
-      met = leb size.states s
+    pub on_whole : (q : Option WholeBranch) → q ≡ whole_branch t r c b → option_map (λ w. whole_extended w t.columns (goal_next marks n met w.next) (goal_reward marks met w.next)) q ≡ whole_branch (goal_view o t) s c b
+    on_whole =
+        on_asked (λ z. option_map (λ w. whole_extended w t.columns (goal_next marks z (leb z s) w.next) (goal_reward marks (leb z s) w.next))) (λ p. whole_branch t p c b) (λ u. whole_branch u s c b)
+        (goal_whole t marks f s c b (fits marks (sym e)).1)
 
-      pub room_next : (o : Option ℕ) → o ≡ next_of t r c b → option_map (goal_next marks size.states met) o ≡ next_of (goal_view on marks t) s c b
-      room_next = at_here (λ z. goal_next marks z.states (leb z.states s)) (λ u q. next_of u q c b) (λ u q. next_of u q c b) (goal_nexts on marks t fits f s c b)
-
-      pub room_next_some : (n m : ℕ) → Some n ≡ next_of t r c b → m ≡ goal_next marks size.states met n → Some m ≡ next_of (goal_view on marks t) s c b
-      room_next_some n m k p = ap Some p ∙ room_next (Some n) k
-
-      pub room_reward : (column : ℕ) → (column ≡ size.columns → ⊥) → (o : Option ℤ) → o ≡ reward_of t r c b column → o ≡ reward_of (goal_view on marks t) s c b column
-      room_reward column d o k =
-          k ∙ (ap (λ q. reward_of t q c b column) (low ∙ ap (λ z. state_below z.states s) is_here)
-          ∙ sym (goal_old_reward on marks t fits f s c b column (λ h. d (h ∙ sym (ap (λ z. z.columns) is_here)))))
-
-      pub room_last : (column : ℕ) → column ≡ size.columns → (o : Option ℕ) → o ≡ next_of t r c b → option_map (goal_reward marks met) o ≡ reward_of (goal_view on marks t) s c b column
-      room_last column k =
-          at_here (λ z. goal_reward marks (leb z.states s)) (λ u q. next_of u q c b) (λ u q. reward_of u q c b column)
-          (goal_new_reward on marks t fits f s c b column (k ∙ ap (λ z. z.columns) is_here))
-
-      pub room_last_some : (column : ℕ) → column ≡ size.columns → (n : ℕ) (v : ℤ) → Some n ≡ next_of t r c b → v ≡ goal_reward marks met n → Some (passed v) ≡ reward_of (goal_view on marks t) s c b column
-      room_last_some column d n v k p = ap Some (passed_as v (goal_reward marks met n) (small_reward (not met && is_marked marks n)) p) ∙ room_last column d (Some n) k
-
-      abbrev extended : Size → WholeBranch → WholeBranch
-      extended z w = whole_extended w z.columns (goal_next marks z.states (leb z.states s) w.next) (goal_reward marks (leb z.states s) w.next)
-
-      pub room_whole : (o : Option WholeBranch) → o ≡ whole_branch t r c b → option_map (extended size) o ≡ whole_branch (goal_view on marks t) s c b
-      room_whole = at_here extended (λ u q. whole_branch u q c b) (λ u q. whole_branch u q c b) (goal_whole on marks t fits f s c b)
-
-      pub room_whole_some : (w v : WholeBranch) (n : ℕ) (x : ℤ) → Some w ≡ whole_branch t r c b → v ≡ whole_extended w size.columns n (passed x)
-          → n ≡ goal_next marks size.states met w.next → x ≡ goal_reward marks met w.next → Some v ≡ whole_branch (goal_view on marks t) s c b
-      room_whole_some w v n x k e' p q =
-          ap Some (extended_as v w size.columns n (goal_next marks size.states met w.next) x (goal_reward marks met w.next) e' (small_reward (not met && is_marked marks w.next)) p q) ∙ room_whole (Some w) k
+    pub on_whole_some : (w v : WholeBranch) (i m : ℕ) (x : ℤ) → Some w ≡ whole_branch t r c b → i ≡ t.columns → v ≡ whole_extended w i m (passed x)
+        → m ≡ goal_next marks n met w.next → x ≡ goal_reward marks met w.next → Some v ≡ whole_branch (goal_view o t) s c b
+    on_whole_some w v i m x p l h y z =
+        ap Some (extended_as v w i m (goal_next marks n met w.next) x (goal_reward marks met w.next) h (small_reward (not met && is_marked marks w.next)) y z
+        ∙ ap (λ j. whole_extended w j (goal_next marks n met w.next) (goal_reward marks met w.next)) l)
+        ∙ on_whole (Some w) p

@@ -1,4 +1,3 @@
-pub mod Fitted
 pub mod Extended
 pub mod Halves
 pub mod Negated

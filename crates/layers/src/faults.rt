@@ -1,14 +1,8 @@
 // Why a layer does not fit the model below.
-ghost use Rattle.std.specs.Prelude.{◌≡◌, Err, codes};
+ghost use Rattle.std.specs.Prelude.{codes};
 ghost use Rattle.layers.specs.Numbers.{goal_number, mirror_number};
 
 use fault::{Cause, Fault};
-
-pub(crate) fn refuse<C>(cause: C, place: usize) -> Result<(), Fault<C>>
-    ensures { result ≡ Err (record { cause = cause; place = place }) }
-{
-    Err(Fault { cause, place })
-}
 
 #[derive(Clone, Copy, PartialEq, Eq, Debug)]
 pub enum GoalCause {

@@ -1,28 +1,32 @@
 // A layer that pays for the first marked state that is met.
-ghost use Rattle.std.specs.Prelude.{◌≡◌, ◌≤◌, ◌&&◌, length, is_ok, if◌then◌else◌};
-ghost use Rattle.tables.specs.Goal.{max_marks, state_below, goal_next, goal_reward, goal_table, goal_fits, goal_view};
+ghost use Rattle.std.specs.Prelude.{◌≡◌, ◌≤◌, length, nat_le, IfSome, Some, None, is_ok, if◌then◌else◌};
+ghost use Rattle.std.specs.Option.{ForSome, option_map};
+ghost use Rattle.tables.specs.Goal.{max_marks, state_below, goal_next, goal_reward, goal_table, GoalFits, goal_view, view_below};
 ghost use Rattle.tables.proofs.Goal.{goal_facts};
-ghost use Rattle.layers.specs.Fits.{goal_fit, goal_room};
+ghost use Rattle.layers.specs.Fits.{goal_fit};
 
 use crate::extend;
-use crate::faults::{GoalCause, GoalFault, refuse};
+use crate::faults::{GoalCause, GoalFault};
 use crate::marks::{MAX_MARKS, Marks};
+use fault::Cause;
 use mdp::{MAX_COLUMNS, Model as DecisionModel, WholeBranch};
 
+// The layer is on where it has marks.
 #[derive(Drop)]
 pub struct Goal<M: DecisionModel> {
     below: M,
-    marks: Marks,
-    on: bool,
+    marks: Option<Marks>,
+    ghost fits: { ForSome marks (λ _. GoalFits (M.Model.table below)) },
 }
 
+// The states of a layer that is on: those below, once for before and once for after the mark.
 #[derive(Clone, Copy)]
-struct Size {
+struct Halves<'a> {
+    marks: &'a Marks,
     states: usize,
-    columns: usize,
 }
 
-impl Size {
+impl Halves<'_> {
     // The state below that a state stands for.
     fn state_below(&self, state: usize) -> usize
         ensures { result ≡ state_below self.now.states state }
@@ -33,105 +37,98 @@ impl Size {
             state
         }
     }
-}
 
-// Where a branch goes, and what it earns in the last column.
-#[derive(Clone, Copy)]
-struct Step {
-    next: usize,
-    reward: i16,
-}
+    // Where a branch of a state goes, by where the one below goes.
+    fn next(&self, state: usize, next: usize) -> usize
+        requires { (self.now.states ≤ max_marks) × (next ≤ max_marks) }
+        ensures { result ≡ goal_next self.now.marks.now self.now.states (nat_le self.now.states state) next }
+    {
+        if state >= self.states || self.marks.has(next) {
+            next + self.states
+        } else {
+            next
+        }
+    }
 
-// The step to a next state below, with or without a mark met before.
-fn step_to(marks: &Marks, states: usize, met: bool, next: usize) -> Step
-    requires { (states ≤ max_marks) × (next ≤ max_marks) }
-    ensures next { result.next ≡ goal_next marks.now.marked states met next }
-    ensures reward { result.reward ≡ goal_reward marks.now.marked met next }
-{
-    let marked = marks.has(next);
-    Step {
-        next: if met || marked { next + states } else { next },
-        reward: if marked && !met { 1 } else { 0 },
+    // What it earns in the last column.
+    fn reward(&self, state: usize, next: usize) -> i16
+        ensures { result ≡ goal_reward self.now.marks.now (nat_le self.now.states state) next }
+    {
+        i16::from(state < self.states && self.marks.has(next))
     }
 }
 
 // Whether the layer fits a model with these marks.
 fn check_fit<M: DecisionModel>(below: &M, marks: &Marks) -> Result<(), GoalFault>
-    ensures { result ≡ goal_fit (M.Model.table below.now) marks.now.marked }
+    ensures { result ≡ goal_fit (M.Model.table below.now) marks.now }
 {
     let states = below.states();
     if states > MAX_MARKS {
-        return refuse(GoalCause::Room, states);
+        return Err(GoalCause::Room.at(states));
     }
     if below.columns() >= MAX_COLUMNS {
-        return refuse(GoalCause::Room, MAX_COLUMNS);
+        return Err(GoalCause::Room.at(MAX_COLUMNS));
     }
     match marks.lowest_wrong(below.first(), states) {
-        Some(state) => refuse(GoalCause::Mark, state),
+        Some(state) => Err(GoalCause::Mark.at(state)),
         None => Ok(()),
     }
 }
 
+#[tactic(auto, unfolding(tables::specs::Goal::goal_view))]
 impl<M: DecisionModel> Goal<M> {
     pub fn idle(below: M) -> Goal<M>
         ensures below { result.below ≡ below }
-        ensures table { goal_view result.on result.marks.marked (M.Model.table result.below) ≡ M.Model.table below }
+        ensures table { goal_view result.marks (M.Model.table result.below) ≡ M.Model.table below }
     {
-        Goal {
-            below,
-            marks: Marks::none(),
-            on: false,
-        }
+        Goal { below, marks: None }
     }
 
     // Takes the marks and is on, or refuses them and is idle.
     pub fn fit(&mut self, marks: Marks) -> Result<(), GoalFault>
-        ensures answer { result ≡ goal_fit (M.Model.table self.old.below) marks.marked }
+        ensures answer { result ≡ goal_fit (M.Model.table self.old.below) marks }
         ensures below { self.new.below ≡ self.old.below }
-        ensures table { goal_view self.new.on self.new.marks.marked (M.Model.table self.new.below) ≡ (if is_ok result then goal_table marks.marked (M.Model.table self.old.below) else M.Model.table self.old.below) }
+        ensures table { goal_view self.new.marks (M.Model.table self.new.below) ≡ (if is_ok result then goal_table marks (M.Model.table self.old.below) else M.Model.table self.old.below) }
     {
-        let answer = check_fit(&self.below, &marks);
-        self.marks = marks;
-        self.on = answer.is_ok();
-        answer
+        self.marks = None;
+        check_fit(&self.below, &marks)?;
+        self.marks = Some(marks);
+        Ok(())
     }
 
-    // The sizes of the model below, where the layer is on and fits.
-    fn room(&self) -> Option<Size>
-        ensures { result ≡ goal_room self.now.on (M.Model.table self.now.below) }
+    // The states, where the layer is on.
+    fn halves(&self) -> Option<Halves<'_>>
+        ensures marks { option_map (λ h. h.marks.now) result ≡ self.now.marks }
+        ensures states { IfSome result (λ h. h.states ≡ length (M.Model.table self.now.below).states) }
     {
-        if !self.on {
-            return None;
-        }
+        let marks = self.marks.as_ref()?;
         let states = self.below.states();
-        let columns = self.below.columns();
-        if states <= MAX_MARKS && columns < MAX_COLUMNS {
-            Some(Size { states, columns })
-        } else {
-            None
-        }
+        Some(Halves { marks, states })
     }
 
     // The state below that a state stands for.
     fn state_below(&self, state: usize) -> usize
-        ensures { result ≡ (if self.now.on && goal_fits (M.Model.table self.now.below) then state_below (length (M.Model.table self.now.below).states) state else state) }
+        ensures { result ≡ view_below self.now.marks (length (M.Model.table self.now.below).states) state }
     {
-        match self.room() {
-            Some(size) => size.state_below(state),
+        match self.halves() {
+            Some(halves) => halves.state_below(state),
             None => state,
         }
     }
 }
 
+#[tactic(auto, using(tables::proofs::Goal::goal_passed_on))]
 impl<M: DecisionModel> DecisionModel for Goal<M> {
-    ghost table = { λ m. goal_view m.on m.marks.marked (M.Model.table m.below) };
+    ghost table = { λ m. goal_view m.marks (M.Model.table m.below) };
 
-    ghost facts = { λ m. goal_facts m.on m.marks.marked (M.Model.table m.below) (M.Model.facts m.below) };
+    ghost facts = { λ m. goal_facts m.marks (M.Model.table m.below) m.fits (M.Model.facts m.below) };
 
     fn states(&self) -> usize {
-        match self.room() {
-            Some(size) => 2 * size.states,
-            None => self.below.states(),
+        let states = self.below.states();
+        if self.marks.is_some() {
+            2 * states
+        } else {
+            states
         }
     }
 
@@ -144,9 +141,11 @@ impl<M: DecisionModel> DecisionModel for Goal<M> {
     }
 
     fn columns(&self) -> usize {
-        match self.room() {
-            Some(size) => size.columns + 1,
-            None => self.below.columns(),
+        let columns = self.below.columns();
+        if self.marks.is_some() {
+            columns + 1
+        } else {
+            columns
         }
     }
 
@@ -163,33 +162,34 @@ impl<M: DecisionModel> DecisionModel for Goal<M> {
     }
 
     fn next(&self, state: usize, choice: usize, branch: usize) -> Option<usize> {
-        let Some(size) = self.room() else {
+        let Some(halves) = self.halves() else {
             return self.below.next(state, choice, branch);
         };
-        let next = self.below.next(size.state_below(state), choice, branch)?;
-        let step = step_to(&self.marks, size.states, state >= size.states, next);
-        Some(step.next)
+        let next = self.below.next(halves.state_below(state), choice, branch)?;
+        Some(halves.next(state, next))
     }
 
     fn reward(&self, state: usize, choice: usize, branch: usize, column: usize) -> Option<i16> {
-        let Some(size) = self.room() else {
+        let Some(halves) = self.halves() else {
             return self.below.reward(state, choice, branch, column);
         };
-        let low = size.state_below(state);
-        if column != size.columns {
+        let low = halves.state_below(state);
+        if column != self.below.columns() {
             return self.below.reward(low, choice, branch, column);
         }
         let next = self.below.next(low, choice, branch)?;
-        let step = step_to(&self.marks, size.states, state >= size.states, next);
-        Some(step.reward)
+        Some(halves.reward(state, next))
     }
 
     fn branch(&self, state: usize, choice: usize, branch: usize) -> Option<WholeBranch> {
-        let Some(size) = self.room() else {
+        let Some(halves) = self.halves() else {
             return self.below.branch(state, choice, branch);
         };
-        let whole = self.below.branch(size.state_below(state), choice, branch)?;
-        let step = step_to(&self.marks, size.states, state >= size.states, whole.next);
-        Some(extend(whole, size.columns, step.next, step.reward))
+        let whole = self
+            .below
+            .branch(halves.state_below(state), choice, branch)?;
+        let next = halves.next(state, whole.next);
+        let reward = halves.reward(state, whole.next);
+        Some(extend(whole, self.below.columns(), next, reward))
     }
 }

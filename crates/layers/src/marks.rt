@@ -1,6 +1,8 @@
 // Which states are marked.
-ghost use Rattle.std.specs.Prelude.{◌≡◌, true, false, replicate, slice_set};
+ghost use Rattle.std.specs.Prelude.{◌≡◌, Bool, true, false, List, replicate, slice_set};
 ghost use Rattle.tables.specs.Goal.{max_marks, is_marked, is_wrong, lowest};
+
+use std::marker::Model;
 
 pub const MAX_MARKS: usize = 256;
 
@@ -9,9 +11,18 @@ pub struct Marks {
     marked: [bool; MAX_MARKS],
 }
 
+// A clause sees the list of whether each state is marked.
+impl Model for Marks {
+    ghost Value = { List Bool };
+
+    ghost view = { λ m. m.marked };
+
+    ghost inverse = { λ marks. record { marked = marks } };
+}
+
 impl Marks {
     pub fn none() -> Marks
-        ensures { result.marked ≡ replicate max_marks false }
+        ensures { result ≡ replicate max_marks false }
     {
         Marks {
             marked: [false; MAX_MARKS],
@@ -19,38 +30,30 @@ impl Marks {
     }
 
     pub fn mark(&mut self, state: u8)
-        ensures { self.new.marked ≡ slice_set self.old.marked state true }
+        ensures { self.new ≡ slice_set self.old state true }
     {
-        self.marked[state as usize] = true;
+        self.marked[usize::from(state)] = true;
     }
 
     // A state past the marks has none.
     pub fn has(&self, state: usize) -> bool
-        ensures { result ≡ is_marked self.now.marked state }
+        ensures { result ≡ is_marked self.now state }
     {
-        if state < MAX_MARKS {
-            self.marked[state]
-        } else {
-            false
-        }
+        self.marked.get(state).copied().unwrap_or(false)
     }
 
     // A mark on the first state, or on a state that is not there.
     fn is_wrong(&self, first: usize, states: usize, state: usize) -> bool
-        ensures { result ≡ is_wrong self.now.marked first states state }
+        ensures { result ≡ is_wrong self.now first states state }
     {
         self.has(state) && (state == first || state >= states)
     }
 
     // The lowest such state.
+    #[tactic(auto, unfolding(tables::specs::Goal::lowest))]
     pub(crate) fn lowest_wrong(&self, first: usize, states: usize) -> Option<usize>
-        ensures { result ≡ lowest (is_wrong self.now.marked first states) 0 max_marks }
+        ensures { result ≡ lowest (is_wrong self.now first states) 0 max_marks }
     {
-        for state in 0..MAX_MARKS {
-            if self.is_wrong(first, states, state) {
-                return Some(state);
-            }
-        }
-        None
+        (0..MAX_MARKS).find(|state| self.is_wrong(first, states, *state))
     }
 }

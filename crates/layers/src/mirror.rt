@@ -1,19 +1,22 @@
 // A layer with one more column, the negative of another.
 ghost use Rattle.std.specs.Prelude.{◌≡◌, ◌≤◌, neg_ℤ, is_ok, if◌then◌else◌, unsigned_abs};
+ghost use Rattle.std.specs.Option.{ForSome};
 ghost use Rattle.mdp.specs.Limits.{max_reward};
-ghost use Rattle.tables.specs.Mirror.{mirror_table, mirror_room, mirror_view};
+ghost use Rattle.tables.specs.Mirror.{mirror_table, MirrorFits, mirror_view};
 ghost use Rattle.tables.proofs.Mirror.{mirror_facts};
 ghost use Rattle.layers.specs.Fits.{mirror_fit};
 
 use crate::extend;
-use crate::faults::{MirrorCause, MirrorFault, refuse};
+use crate::faults::{MirrorCause, MirrorFault};
+use fault::Cause;
 use mdp::{MAX_COLUMNS, Model as DecisionModel, WholeBranch};
 
+// The layer is on where it has a column.
 #[derive(Drop)]
 pub struct Mirror<M: DecisionModel> {
     below: M,
-    column: usize,
-    on: bool,
+    column: Option<usize>,
+    ghost fits: { ForSome column (λ j. MirrorFits j (M.Model.table below)) },
 }
 
 fn negative(reward: i16) -> i16
@@ -29,23 +32,23 @@ fn check_fit<M: DecisionModel>(below: &M, column: usize) -> Result<(), MirrorFau
 {
     let columns = below.columns();
     if columns >= MAX_COLUMNS {
-        return refuse(MirrorCause::Room, MAX_COLUMNS);
+        return Err(MirrorCause::Room.at(MAX_COLUMNS));
     }
     if column >= columns {
-        return refuse(MirrorCause::Column, column);
+        return Err(MirrorCause::Column.at(column));
     }
     Ok(())
 }
 
+#[tactic(auto, unfolding(tables::specs::Mirror::mirror_view))]
 impl<M: DecisionModel> Mirror<M> {
     pub fn idle(below: M) -> Mirror<M>
         ensures below { result.below ≡ below }
-        ensures table { mirror_view result.on result.column (M.Model.table result.below) ≡ M.Model.table below }
+        ensures table { mirror_view result.column (M.Model.table result.below) ≡ M.Model.table below }
     {
         Mirror {
             below,
-            column: 0,
-            on: false,
+            column: None,
         }
     }
 
@@ -53,34 +56,20 @@ impl<M: DecisionModel> Mirror<M> {
     pub fn fit(&mut self, column: usize) -> Result<(), MirrorFault>
         ensures answer { result ≡ mirror_fit (M.Model.table self.old.below) column }
         ensures below { self.new.below ≡ self.old.below }
-        ensures table { mirror_view self.new.on self.new.column (M.Model.table self.new.below) ≡ (if is_ok result then mirror_table column (M.Model.table self.old.below) else M.Model.table self.old.below) }
+        ensures table { mirror_view self.new.column (M.Model.table self.new.below) ≡ (if is_ok result then mirror_table column (M.Model.table self.old.below) else M.Model.table self.old.below) }
     {
-        let answer = check_fit(&self.below, column);
-        self.column = column;
-        self.on = answer.is_ok();
-        answer
-    }
-
-    // The number of the new column, where the layer is on and fits.
-    fn room(&self) -> Option<usize>
-        ensures { result ≡ mirror_room self.now.on self.now.column (M.Model.table self.now.below) }
-    {
-        if !self.on {
-            return None;
-        }
-        let columns = self.below.columns();
-        if columns < MAX_COLUMNS && self.column < columns {
-            Some(columns)
-        } else {
-            None
-        }
+        self.column = None;
+        check_fit(&self.below, column)?;
+        self.column = Some(column);
+        Ok(())
     }
 }
 
+#[tactic(auto, using(tables::proofs::Mirror::mirror_passed_on))]
 impl<M: DecisionModel> DecisionModel for Mirror<M> {
-    ghost table = { λ m. mirror_view m.on m.column (M.Model.table m.below) };
+    ghost table = { λ m. mirror_view m.column (M.Model.table m.below) };
 
-    ghost facts = { λ m. mirror_facts m.on m.column (M.Model.table m.below) (M.Model.facts m.below) };
+    ghost facts = { λ m. mirror_facts m.column (M.Model.table m.below) m.fits (M.Model.facts m.below) };
 
     fn states(&self) -> usize {
         self.below.states()
@@ -95,9 +84,11 @@ impl<M: DecisionModel> DecisionModel for Mirror<M> {
     }
 
     fn columns(&self) -> usize {
-        match self.room() {
-            Some(last) => last + 1,
-            None => self.below.columns(),
+        let columns = self.below.columns();
+        if self.column.is_some() {
+            columns + 1
+        } else {
+            columns
         }
     }
 
@@ -118,22 +109,21 @@ impl<M: DecisionModel> DecisionModel for Mirror<M> {
     }
 
     fn reward(&self, state: usize, choice: usize, branch: usize, column: usize) -> Option<i16> {
-        let Some(last) = self.room() else {
-            return self.below.reward(state, choice, branch, column);
-        };
-        if column != last {
-            return self.below.reward(state, choice, branch, column);
+        match self.column {
+            Some(mirrored) if column == self.below.columns() => {
+                let reward = self.below.reward(state, choice, branch, mirrored)?;
+                Some(negative(reward))
+            }
+            _ => self.below.reward(state, choice, branch, column),
         }
-        let reward = self.below.reward(state, choice, branch, self.column)?;
-        Some(negative(reward))
     }
 
     fn branch(&self, state: usize, choice: usize, branch: usize) -> Option<WholeBranch> {
-        let Some(last) = self.room() else {
-            return self.below.branch(state, choice, branch);
-        };
         let whole = self.below.branch(state, choice, branch)?;
-        let reward = negative(whole.rewards[self.column]);
-        Some(extend(whole, last, whole.next, reward))
+        let Some(mirrored) = self.column else {
+            return Some(whole);
+        };
+        let reward = negative(whole.rewards[mirrored]);
+        Some(extend(whole, self.below.columns(), whole.next, reward))
     }
 }

@@ -118,3 +118,6 @@ module _ (n g : ℕ) where
 
     pub whole_ranked : (c b : ℕ) → whole_branch (counter_box n g) s c b ≡ option_map whole_of (bind (bind (ranked s o) (λ cs. slice_get cs c)) (λ bs. slice_get bs b))
     whole_ranked c b = whole_branch_is (counter_box n g) s c b ∙ ap (λ r. option_map whole_of (bind (bind r (λ cs. slice_get cs c)) (λ bs. slice_get bs b))) box_ranked
+
+-- what is asked of the table as a whole
+pub ruleset box_whole = (box_states, box_first, box_divisor, box_columns)

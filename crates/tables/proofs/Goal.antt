@@ -1,15 +1,15 @@
 -- The goal's table has the facts, and what is asked of it.
-use Rattle.std.proofs.Common.{◌≡◌, ℕ, ◌+◌, ◌-◌, ◌<◌, ◌≤◌, Bool, true, false, cond, not, ◌&&◌, ◌||◌, leb, List, ◌++◌, length, ℤ, pos, nat_abs, All, sym, refl, ap, ◌∙◌, subst, arith, length-append}
+use Rattle.std.proofs.Common.{◌≡◌, ℕ, ◌+◌, ◌-◌, ◌<◌, ◌≤◌, Bool, true, false, cond, not, ◌&&◌, ◌||◌, leb, List, ◌++◌, length, ℤ, pos, nat_abs, is_some, Some, None, All, Option, sym, refl, ◌∙◌, subst, arith, length-append}
 use lib.ListN.{length-map}
-use Rattle.std.specs.Option.{option_map}
-use Rattle.std.proofs.lemmas.Bool.{cond-true, cond-false, cond_both, and_parts, ltb-true, leb-true, leb-false}
+use Rattle.std.specs.Option.{option_map, ForSome}
+use Rattle.std.proofs.lemmas.Bool.{leb-true, leb-false}
 use Rattle.std.proofs.lemmas.List.Elements.{All-append}
 use Rattle.mdp.specs.Limits.{max_columns, max_reward}
 use Rattle.mdp.specs.Table.{Branch, State, Table, StateFacts, Facts}
 use Rattle.mdp.specs.Questions.{branch_of, choice_count, branch_count, weight_of, next_of, reward_of, whole_branch}
 use Rattle.tables.specs.Whole.{whole_extended}
-use Rattle.tables.specs.Layer.{column_free, each_branch}
-use Rattle.tables.specs.Goal.{max_marks, is_marked, state_number, state_below, goal_next, goal_reward, goal_branch, goal_half, goal_table, goal_fits, goal_view}
+use Rattle.tables.specs.Layer.{each_branch}
+use Rattle.tables.specs.Goal.{max_marks, is_marked, state_number, state_below, goal_next, goal_reward, goal_branch, goal_half, goal_table, GoalFits, goal_view, view_below}
 use Rattle.tables.proofs.Places.{nth_map, nth_left, nth_right}
 use Rattle.tables.proofs.Follows.{Follows, follows_choices, follows_branches, extended_weight, extended_next, extended_reward, extended_last, extended_whole, mapped_mapped}
 use Rattle.tables.proofs.Kept.{extended_facts, states_kept, extended_table_facts}
@@ -62,82 +62,59 @@ module _ (marks : List Bool) (t : Table) where
   goal_follows : (s : ℕ) → Follows (goal_table marks t) s t (state_below S s) (goal_branch marks S (leb S s))
   goal_follows s = follows_at s (leb S s) refl
 
--- what is so of one pair where a test passes and of the other where not
-by_test : {X Y : Type 0} (b : Bool) (P : X → Y → Type 0) (x x' : X) (y y' : Y) → (b ≡ true → P x y) → P x' y' → P (cond b x x') (cond b y y')
-by_test true P x x' y y' h k = h refl
-by_test false P x x' y y' h k = k
-
--- a layer that is on only where it fits
-pub goal_switched : (on : Bool) (marks : List Bool) (t : Table) → (on ≡ true → goal_fits t ≡ true) → goal_view on marks t ≡ cond on (goal_table marks t) t
+pub goal_shown : (marks : List Bool) (t : Table) → goal_view (Some marks) t ≡ goal_table marks t
 unfolding goal_view
-goal_switched true marks t h = cond-true (goal_fits t) (goal_table marks t) t (h refl)
-goal_switched false marks t h = refl
+goal_shown marks t = refl
 
-module _ (on : Bool) (marks : List Bool) (t : Table) where
+pub goal_idle : (t : Table) → goal_view None t ≡ t
+unfolding goal_view
+goal_idle t = refl
+
+pub goal_facts : (o : Option (List Bool)) (t : Table) → ForSome o (λ _. GoalFits t) → Facts t → Facts (goal_view o t)
+unfolding goal_view
+goal_facts None t h f = f
+goal_facts (Some marks) t h f = let k = h marks refl in goal_table_facts marks t k.0 k.1 f
+
+module _ (t : Table) where
   abbrev n : ℕ
   n = length t.states
 
-  record Room : Type 0 where
-    pub few : n ≤ max_marks
-    pub free : t.columns < max_columns
-
-  room : (on && goal_fits t) ≡ true → Room
-  room e =
-      let p = and_parts (leb n max_marks) (column_free t) (and_parts on (goal_fits t) e).1 in
-      record { few = leb-true n max_marks p.0; free = ltb-true t.columns max_columns p.1 }
-
-  pub goal_facts : Facts t → Facts (goal_view on marks t)
-  unfolding goal_view
-  goal_facts f = cond_both (on && goal_fits t) (goal_table marks t) t Facts (λ e. goal_table_facts marks t (room e).few (room e).free f) (λ e. f)
-
-  pub goal_first : (goal_view on marks t).first ≡ t.first
+  pub goal_first : (o : Option (List Bool)) → (goal_view o t).first ≡ t.first
   unfolding goal_view goal_table
-  goal_first = cond_both (on && goal_fits t) (goal_table marks t) t (λ u. u.first ≡ t.first) (λ e. refl) (λ e. refl)
+  goal_first None = refl
+  goal_first (Some marks) = refl
 
-  pub goal_divisor : (goal_view on marks t).divisor ≡ t.divisor
+  pub goal_divisor : (o : Option (List Bool)) → (goal_view o t).divisor ≡ t.divisor
   unfolding goal_view goal_table
-  goal_divisor = cond_both (on && goal_fits t) (goal_table marks t) t (λ u. u.divisor ≡ t.divisor) (λ e. refl) (λ e. refl)
+  goal_divisor None = refl
+  goal_divisor (Some marks) = refl
 
-  -- at the state r below that state s stands for
-  module _ (s r : ℕ) (low : r ≡ cond (on && goal_fits t) (state_below n s) s) where
-    at_low : (P : Table → ℕ → Type 0) → P (goal_table marks t) (state_below n s) → P t s → P (goal_view on marks t) r
-    unfolding goal_view
-    at_low P h k = subst (P (goal_view on marks t)) (sym low) (by_test (on && goal_fits t) P (goal_table marks t) t (state_below n s) s (λ e. h) k)
-
-    pub goal_choices : choice_count (goal_view on marks t) s ≡ choice_count t r
-    goal_choices = at_low (λ u q. choice_count u s ≡ choice_count t q) (follows_choices (goal_follows marks t s)) refl
-
-    pub goal_branches : (c : ℕ) → branch_count (goal_view on marks t) s c ≡ branch_count t r c
-    goal_branches c = at_low (λ u q. branch_count u s c ≡ branch_count t q c) (follows_branches (goal_follows marks t s) c) refl
-
-    pub goal_weight : (c b : ℕ) → Facts t → weight_of (goal_view on marks t) s c b ≡ weight_of t r c b
-    goal_weight c b f =
-        at_low (λ u q. weight_of u s c b ≡ weight_of t q c b)
-        (extended_weight (λ x. goal_next marks n (leb n s) x.next) (λ x. goal_reward marks (leb n s) x.next) (goal_follows marks t s) f c b) refl
-
-  pub goal_idle : (on && goal_fits t) ≡ false → goal_view on marks t ≡ t
+  pub goal_choices : (o : Option (List Bool)) (s : ℕ) → choice_count (goal_view o t) s ≡ choice_count t (view_below o n s)
   unfolding goal_view
-  goal_idle e = cond-false (on && goal_fits t) (goal_table marks t) t e
+  goal_choices None s = refl
+  goal_choices (Some marks) s = follows_choices (goal_follows marks t s)
 
-  module _ (e : (on && goal_fits t) ≡ true) where
-    pub goal_shown : goal_view on marks t ≡ goal_table marks t
-    unfolding goal_view
-    goal_shown = cond-true (on && goal_fits t) (goal_table marks t) t e
+  pub goal_branches : (o : Option (List Bool)) (s c : ℕ) → branch_count (goal_view o t) s c ≡ branch_count t (view_below o n s) c
+  unfolding goal_view
+  goal_branches None s c = refl
+  goal_branches (Some marks) s c = follows_branches (goal_follows marks t s) c
 
-    pub goal_few : n ≤ max_marks
-    goal_few = (room e).few
+  pub goal_weight : (o : Option (List Bool)) (s c b : ℕ) → Facts t → weight_of (goal_view o t) s c b ≡ weight_of t (view_below o n s) c b
+  unfolding goal_view
+  goal_weight None s c b f = refl
+  goal_weight (Some marks) s c b f = extended_weight (λ x. goal_next marks n (leb n s) x.next) (λ x. goal_reward marks (leb n s) x.next) (goal_follows marks t s) f c b
 
-    pub goal_free : t.columns < max_columns
-    goal_free = (room e).free
+  pub goal_states : (o : Option (List Bool)) → length (goal_view o t).states ≡ cond (is_some o) (n + n) n
+  unfolding goal_view goal_table
+  goal_states None = refl
+  goal_states (Some marks) = length_halves marks t
 
-    pub goal_states : length (goal_view on marks t).states ≡ n + n
-    unfolding goal_table
-    goal_states = ap (λ u. length u.states) goal_shown ∙ length_halves marks t
+  pub goal_columns : (o : Option (List Bool)) → (goal_view o t).columns ≡ cond (is_some o) (t.columns + 1) t.columns
+  unfolding goal_view goal_table
+  goal_columns None = refl
+  goal_columns (Some marks) = refl
 
-    pub goal_columns : (goal_view on marks t).columns ≡ t.columns + 1
-    unfolding goal_table
-    goal_columns = ap (λ u. u.columns) goal_shown
-
+  module _ (marks : List Bool) where
     module _ (f : Facts t) (s c b : ℕ) where
       abbrev to : Branch → ℕ
       to x = goal_next marks n (leb n s) x.next
@@ -145,20 +122,18 @@ module _ (on : Bool) (marks : List Bool) (t : Table) where
       abbrev earns : Branch → ℤ
       earns x = goal_reward marks (leb n s) x.next
 
-      pub goal_nexts : next_of (goal_view on marks t) s c b ≡ option_map (goal_next marks n (leb n s)) (next_of t (state_below n s) c b)
-      goal_nexts = ap (λ u. next_of u s c b) goal_shown ∙ extended_next to earns (goal_follows marks t s) f c b (goal_next marks n (leb n s)) (λ x. refl)
+      pub goal_nexts : next_of (goal_table marks t) s c b ≡ option_map (goal_next marks n (leb n s)) (next_of t (state_below n s) c b)
+      goal_nexts = extended_next to earns (goal_follows marks t s) f c b (goal_next marks n (leb n s)) (λ x. refl)
 
-      pub goal_old_reward : (i : ℕ) → (i ≡ t.columns → ⊥) → reward_of (goal_view on marks t) s c b i ≡ reward_of t (state_below n s) c b i
-      goal_old_reward i d = ap (λ u. reward_of u s c b i) goal_shown ∙ extended_reward to earns (goal_follows marks t s) f c b i d
+      pub goal_old_reward : (i : ℕ) → (i ≡ t.columns → ⊥) → reward_of (goal_table marks t) s c b i ≡ reward_of t (state_below n s) c b i
+      goal_old_reward i d = extended_reward to earns (goal_follows marks t s) f c b i d
 
-      pub goal_new_reward : (i : ℕ) → i ≡ t.columns → reward_of (goal_view on marks t) s c b i ≡ option_map (goal_reward marks (leb n s)) (next_of t (state_below n s) c b)
-      goal_new_reward i d =
-          ap (λ u. reward_of u s c b i) goal_shown
-          ∙ (extended_last to earns (goal_follows marks t s) f c b i d
-          ∙ mapped_mapped (goal_reward marks (leb n s)) (λ (x : Branch). x.next) (branch_of t (state_below n s) c b))
+      pub goal_new_reward : (i : ℕ) → i ≡ t.columns → reward_of (goal_table marks t) s c b i ≡ option_map (goal_reward marks (leb n s)) (next_of t (state_below n s) c b)
+      goal_new_reward i d = extended_last to earns (goal_follows marks t s) f c b i d ∙ mapped_mapped (goal_reward marks (leb n s)) (λ (x : Branch). x.next) (branch_of t (state_below n s) c b)
 
-      pub goal_whole : whole_branch (goal_view on marks t) s c b
+      pub goal_whole : t.columns < max_columns → whole_branch (goal_table marks t) s c b
           ≡ option_map (λ w. whole_extended w t.columns (goal_next marks n (leb n s) w.next) (goal_reward marks (leb n s) w.next)) (whole_branch t (state_below n s) c b)
-      goal_whole =
-          ap (λ u. whole_branch u s c b) goal_shown
-          ∙ extended_whole to earns (goal_follows marks t s) f c b (room e).free (goal_next marks n (leb n s)) (λ w. goal_reward marks (leb n s) w.next) (λ x. refl) (λ x k. refl)
+      goal_whole l = extended_whole to earns (goal_follows marks t s) f c b l (goal_next marks n (leb n s)) (λ w. goal_reward marks (leb n s) w.next) (λ x. refl) (λ x k. refl)
+
+-- what the layer answers to a question that it passes on
+pub ruleset goal_passed_on = (goal_first, goal_divisor, goal_choices, goal_branches, goal_weight, goal_states, goal_columns)

@@ -1,23 +1,13 @@
--- What a search for the lowest number finds, and its steps.
-use Rattle.std.proofs.Common.{◌≡◌, ℕ, zero, suc, ◌+◌, ◌-◌, ◌<◌, ◌≤◌, Bool, true, false, cond, Some, None, sym, refl, ap, ◌∙◌, subst, inl, inr, arith}
-use Rattle.std.proofs.lemmas.Bool.{cond-true, cond-false, cases_order}
+-- What a search for the lowest number finds.
+use Rattle.std.proofs.Common.{◌≡◌, ℕ, zero, suc, ◌+◌, ◌<◌, ◌≤◌, Bool, true, false, cond, Some, None, refl, ap, ◌∙◌, subst, inl, inr, arith}
+use Rattle.std.proofs.lemmas.Bool.{cases_order}
+use Rattle.std.specs.List.{find, range_with_len}
 use Rattle.tables.specs.Goal.{lowest}
 
 module _ (p : ℕ → Bool) where
-  -- one number of n in all is looked at
-  turn : (n i : ℕ) → i < n → lowest p i (n - i) ≡ cond (p i) (Some i) (lowest p (i + 1) (n - (i + 1)))
+  pub lowest_is : (k n : ℕ) → find p (range_with_len k n) ≡ lowest p k n
   unfolding lowest
-  turn n i h = let e : n - i ≡ suc (n - (i + 1)) = omega arith in ap (lowest p i) e
-
-  pub lowest_here : (n i : ℕ) → i < n → true ≡ p i → lowest p i (n - i) ≡ Some i
-  lowest_here n i h e = turn n i h ∙ cond-true (p i) (Some i) (lowest p (i + 1) (n - (i + 1))) (sym e)
-
-  pub lowest_more : (n i : ℕ) → i < n → false ≡ p i → lowest p i (n - i) ≡ lowest p (i + 1) (n - (i + 1))
-  lowest_more n i h e = turn n i h ∙ cond-false (p i) (Some i) (lowest p (i + 1) (n - (i + 1))) (sym e)
-
-  pub lowest_all : (n i : ℕ) → n ≤ i → lowest p i (n - i) ≡ None
-  unfolding lowest
-  lowest_all n i h = let e : n - i ≡ 0 = omega arith in ap (lowest p i) e
+  lowest_is k n = refl
 
   -- what is found passes, and nothing below it does
   pub record Lowest (k n s : ℕ) : Type 0 where

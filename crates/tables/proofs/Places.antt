@@ -1,5 +1,5 @@
--- What stands where in a list that is made of others, and what a value that is there only under a test tells.
-use Rattle.std.proofs.Common.{◌≡◌, ℕ, zero, suc, ◌+◌, ◌<◌, Bool, true, false, cond, List, [], ◌∷◌, ◌++◌, map, length, Some, None, refl, ap, arith}
+-- What stands where in a list that is made of others.
+use Rattle.std.proofs.Common.{◌≡◌, ℕ, zero, suc, ◌+◌, ◌<◌, List, [], ◌∷◌, ◌++◌, map, length, refl, ap, arith}
 use Rattle.std.specs.Option.{option_map}
 use Rattle.std.specs.List.{slice_get}
 
@@ -17,11 +17,3 @@ pub nth_right : {X : Type 0} (xs ys : List X) (n i : ℕ) → length xs + i ≡ 
 nth_right [] ys n i e = let z : n ≡ i = omega arith in ap (slice_get ys) z
 nth_right (x ∷ xs) ys zero i e = absurd (omega arith)
 nth_right (x ∷ xs) ys (suc n) i e = nth_right xs ys n i (omega arith)
-
-pub some_cond : {X : Type 0} (b : Bool) (x y : X) → Some x ≡ cond b (Some y) None → (b ≡ true) × (x ≡ y)
-some_cond true x y e = (refl, cc)
-some_cond false x y e = let z : ◌≡◌ {A = ℕ} 0 1 = cc in absurd (omega arith)
-
-pub none_cond : {X : Type 0} (b : Bool) (y : X) → None ≡ cond b (Some y) None → b ≡ false
-none_cond true y e = let z : ◌≡◌ {A = ℕ} 0 1 = cc in absurd (omega arith)
-none_cond false y e = refl

@@ -1,7 +1,9 @@
 -- The table of a model that remembers whether a marked state was met, and pays for the first. Assumes nothing.
-use Rattle.std.specs.Prelude.{ℕ, zero, suc, ◌+◌, ◌-◌, Bool, true, false, cond, not, ◌&&◌, ◌||◌, List, ◌++◌, map, length, ℤ, pos, Some, None, Option, ◌==◌, nat_le, slice_index_or}
+use Rattle.std.specs.Prelude.{ℕ, ◌+◌, ◌-◌, ◌<◌, ◌≤◌, Bool, true, false, cond, not, ◌&&◌, ◌||◌, List, ◌++◌, map, length, ℤ, pos, Some, None, Option, ◌==◌, nat_le, slice_index_or}
+use Rattle.std.specs.List.{find, range_with_len}
+use Rattle.mdp.specs.Limits.{max_columns}
 use Rattle.mdp.specs.Table.{Branch, State, Table}
-use Rattle.tables.specs.Layer.{column_free, extended, extended_table, each_branch}
+use Rattle.tables.specs.Layer.{extended, extended_table, each_branch}
 
 abbrev pub max_marks : ℕ
 max_marks = 256
@@ -42,13 +44,18 @@ is_wrong marks first states s = is_marked marks s && (s == first || nat_le state
 
 -- the lowest of the n numbers from k on that passes a test
 unfoldable pub lowest : (ℕ → Bool) → ℕ → ℕ → Option ℕ
-lowest p k zero = None
-lowest p k (suc n) = cond (p k) (Some k) (lowest p (k + 1) n)
+lowest p k n = find p (range_with_len k n)
 
 -- the states have marks and numbers for both halves, and the column has a place
-abbrev pub goal_fits : Table → Bool
-goal_fits t = nat_le (length t.states) max_marks && column_free t
+abbrev pub GoalFits : Table → Type 0
+GoalFits t = (length t.states ≤ max_marks) × (t.columns < max_columns)
 
--- the table of the layer: that below where it is off or does not fit
-unfoldable pub goal_view : Bool → List Bool → Table → Table
-goal_view on marks t = cond (on && goal_fits t) (goal_table marks t) t
+-- the table of the layer: with marks its own, without that below
+unfoldable pub goal_view : Option (List Bool) → Table → Table
+goal_view None t = t
+goal_view (Some marks) t = goal_table marks t
+
+-- the state below that number s stands for in the view
+abbrev pub view_below : Option (List Bool) → ℕ → ℕ → ℕ
+view_below None n s = s
+view_below (Some marks) n s = state_below n s

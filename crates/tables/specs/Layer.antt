@@ -1,10 +1,6 @@
 -- What the layers share: one more column. Assumes nothing.
-use Rattle.std.specs.Prelude.{ℕ, ◌+◌, Bool, List, [], ◌∷◌, ◌++◌, map, ℤ, nat_lt}
-use Rattle.mdp.specs.Limits.{max_columns}
+use Rattle.std.specs.Prelude.{ℕ, ◌+◌, List, [], ◌∷◌, ◌++◌, map, ℤ}
 use Rattle.mdp.specs.Table.{Branch, State, Table}
-
-abbrev pub column_free : Table → Bool
-column_free t = nat_lt t.columns max_columns
 
 -- another next state, and one more reward in the last column
 abbrev pub extended : Branch → ℕ → ℤ → Branch

@@ -1,22 +1,18 @@
-use Rattle.std.proofs.Common.{None, sym, ap, ◌∙◌}
-use Rattle.mdp.specs.Table.{Table}
+use Rattle.std.proofs.Common.{None, ◌∙◌}
 use Rattle.mdp.specs.Questions.{whole_branch}
-use Rattle.layers.proofs.Halves.{none_view, room_few, whole_next_low, room_whole, room_whole_some}
+use Rattle.layers.proofs.Halves.{idle_asked, whole_next_low, on_whole, on_whole_some}
 use Rattle.layers.proofs.goal.GoalDecisionModel.branch.Goals as goal
 
 pub returns-in_default : goal.returns-in_default
-returns-in_default g c = c.branch-self.ensures ∙ sym (ap (λ (u : Table). whole_branch u c.args.state c.args.choice c.args.branch) (none_view c.args.self.now.on c.args.self.now.marks.marked (g.M.Model.table c.args.self.now.below) c.in_default.ensures))
+returns-in_default g c = idle_asked (λ u. whole_branch u c.args.state c.args.choice c.args.branch) c.args.self.now.marks (g.M.Model.table c.args.self.now.below) c.branch-self.result c.in_default.ensures.marks c.branch-self.ensures
 
 pub returns-in_err-whole : goal.returns-in_err-whole
-returns-in_err-whole g c = c.from_residual.ensures ∙ room_whole c.args.self.now.on c.args.self.now.marks.marked (g.M.Model.table c.args.self.now.below) c.in-Some.size c.in-Some.ensures (g.M.Model.facts c.args.self.now.below) c.args.state c.args.choice c.args.branch c.state_below.result c.state_below.ensures None c.in_err-whole.ensures
+returns-in_err-whole g c = c.from_residual.ensures ∙ on_whole c.in-Some.halves.marks.now c.args.self.now.marks (g.M.Model.table c.args.self.now.below) c.in-Some.halves.states c.in-Some.ensures.marks c.in-Some.ensures.states c.args.self.now.fits (g.M.Model.facts c.args.self.now.below) c.args.state c.args.choice c.args.branch c.state_below.result c.state_below.ensures None c.in_err-whole.ensures
 
-pub step_to-step-requires : goal.step_to-step-requires
-step_to-step-requires g c = (
-  room_few c.args.self.now.on c.args.self.now.marks.marked (g.M.Model.table c.args.self.now.below) c.in-Some.size c.in-Some.ensures,
-  whole_next_low c.args.self.now.on c.args.self.now.marks.marked (g.M.Model.table c.args.self.now.below) c.in-Some.size c.in-Some.ensures (g.M.Model.facts c.args.self.now.below) c.state_below.result c.args.choice c.args.branch c.in_ok-whole.whole c.in_ok-whole.ensures,
-)
+pub next-next-requires : goal.next-next-requires
+next-next-requires g c = whole_next_low c.in-Some.halves.marks.now c.args.self.now.marks (g.M.Model.table c.args.self.now.below) c.in-Some.halves.states c.in-Some.ensures.marks c.in-Some.ensures.states c.args.self.now.fits (g.M.Model.facts c.args.self.now.below) c.state_below.result c.args.choice c.args.branch c.in_ok-whole.whole c.in_ok-whole.ensures
 
 pub returns : goal.returns
 returns g c =
-    room_whole_some c.args.self.now.on c.args.self.now.marks.marked (g.M.Model.table c.args.self.now.below) c.in-Some.size c.in-Some.ensures (g.M.Model.facts c.args.self.now.below) c.args.state c.args.choice c.args.branch c.state_below.result c.state_below.ensures c.in_ok-whole.whole c.extend.result c.step_to-step.result.next c.step_to-step.result.reward
-    c.in_ok-whole.ensures c.extend.ensures c.step_to-step.ensures.next c.step_to-step.ensures.reward
+    on_whole_some c.in-Some.halves.marks.now c.args.self.now.marks (g.M.Model.table c.args.self.now.below) c.in-Some.halves.states c.in-Some.ensures.marks c.in-Some.ensures.states c.args.self.now.fits (g.M.Model.facts c.args.self.now.below) c.args.state c.args.choice c.args.branch c.state_below.result c.state_below.ensures c.in_ok-whole.whole c.extend.result c.columns.result c.next-next.result c.reward-reward.result
+    c.in_ok-whole.ensures c.columns.ensures c.extend.ensures c.next-next.ensures c.reward-reward.ensures

@@ -1,6 +1,0 @@
-use Rattle.std.proofs.Common.{sym, ◌∙◌}
-use Rattle.tables.proofs.Goal.{goal_branches}
-use Rattle.layers.proofs.goal.GoalDecisionModel.branches.Goals as goal
-
-pub returns : goal.returns
-returns g c = c.branches.ensures ∙ sym (goal_branches c.args.self.now.on c.args.self.now.marks.marked (g.M.Model.table c.args.self.now.below) c.args.state c.state_below.result c.state_below.ensures c.args.choice)

@@ -1,6 +1,0 @@
-use Rattle.std.proofs.Common.{sym, ◌∙◌}
-use Rattle.tables.proofs.Mirror.{mirror_divisor}
-use Rattle.layers.proofs.mirror.MirrorDecisionModel.divisor.Goals as goal
-
-pub returns : goal.returns
-returns g c = c.divisor.ensures ∙ sym (mirror_divisor c.args.self.now.on c.args.self.now.column (g.M.Model.table c.args.self.now.below))

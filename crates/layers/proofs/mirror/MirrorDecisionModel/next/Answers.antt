@@ -1,6 +1,0 @@
-use Rattle.std.proofs.Common.{sym, ◌∙◌}
-use Rattle.tables.proofs.Mirror.{mirror_next}
-use Rattle.layers.proofs.mirror.MirrorDecisionModel.next.Goals as goal
-
-pub returns : goal.returns
-returns g c = c.next.ensures ∙ sym (mirror_next c.args.self.now.on c.args.self.now.column (g.M.Model.table c.args.self.now.below) (g.M.Model.facts c.args.self.now.below) c.args.state c.args.choice c.args.branch)
