@@ -4,30 +4,44 @@ use Rattle.std.proofs.lemmas.List.{length_push}
 use Rattle.std.proofs.lemmas.List.Elements.{All-nil, All-cons}
 use Rattle.std.proofs.lemmas.Bool.{lt-ltb, and_from}
 use Rattle.mdp.specs.declared.Model.{Ghosts}
+use Rattle.plans.specs.declared.Row.{Row}
 use Rattle.truth.specs.Dockets.{is_open, priced, cleared, toward, bisected, settle_prices}
-use Rattle.truth.specs.Calls.{price, refusal}
+use Rattle.truth.specs.Calls.{Call, price, refusal, after, if_taken}
 use Rattle.truth.proofs.Rows.{row_of, rows_priced}
-use Rattle.truth.proofs.Taken.{taken_exactly}
+use Rattle.truth.proofs.Taken.{taken_exactly, after_taken}
 use Rattle.truth.proofs.Narrowing.{prices_short}
+use Rattle.verdict.proofs.Refused.{if_none}
 use Rattle.docket.specs.declared.docket.Docket as code
 use Rattle.docket.specs.declared.docket.settling.Settling.{Settling}
 use Rattle.docket.specs.Views.{view}
+use Rattle.docket.specs.Pricing.{priced_rows}
 use Rattle.docket.specs.Settling.{all_priced_rows}
 use Rattle.docket.specs.Stages.{Stage, stage, Room, brings, after_price, after_prices, bisections, prices_on, priced_anew}
 
 -- a pricing toward the first objective is taken where there is room
-pub toward_taken : {M : Type 0} {m : Ghosts M} (s : Settling M m) (a : ℕ) → Room (stage s) 1 → a ≤ 1000 →
-    refusal (m.table s.docket.now.model) (view s.docket.now) (price (toward a) (length s.rows.now)) ≡ None
-toward_taken {m = m} s a room small =
-    ((taken_exactly (m.table s.docket.now.model) (view s.docket.now)).price_if (toward a) (length s.rows.now)).1 (
-      record {
-        each = sym s.two;
-        small = All-cons (λ w. w ≤ 1000) a ((1000 - a) ∷ []) small (All-cons (λ w. w ≤ 1000) (1000 - a) [] (omega arith) (All-nil (λ w. w ≤ 1000)));
-        some = omega (arith, small);
-      },
-      s.lent,
-      inl (omega (arith, room)),
-    )
+module _ {M : Type 0} {m : Ghosts M} (s : Settling M m) (a : ℕ) (room : Room (stage s) 1) (small : a ≤ 1000) where
+  abbrev call : Call
+  call = price (toward a) (length s.rows.now)
+
+  toward_taken : refusal (stage s).table (stage s).docket call ≡ None
+  toward_taken =
+      ((taken_exactly (stage s).table (stage s).docket).price_if (toward a) (length s.rows.now)).1 (
+        record {
+          each = sym s.two;
+          small = All-cons (λ w. w ≤ 1000) a ((1000 - a) ∷ []) small (All-cons (λ w. w ≤ 1000) (1000 - a) [] (omega arith) (All-nil (λ w. w ≤ 1000)));
+          some = omega (arith, small);
+        },
+        s.lent,
+        inl (omega (arith, room)),
+      )
+
+  pub toward_leads : (d : code.Docket M) (rs : List Row) → d.model ≡ s.docket.now.model → view d ≡ after (stage s).table (stage s).docket call →
+      rs ≡ if_taken (refusal (stage s).table (stage s).docket call) (priced_rows (stage s).table (stage s).docket.objectives (toward a) s.rows.now) s.rows.now →
+      record (stage s) { model = d.model; table = m.table d.model; docket = view d; rows = rs } ≡ after_price (stage s) (toward a)
+  toward_leads d rs x y z =
+      let docket_is = y ∙ after_taken (stage s).table (stage s).docket call toward_taken in
+      let rows_is = z ∙ if_none (refusal (stage s).table (stage s).docket call) (priced_rows (stage s).table (stage s).docket.objectives (toward a) s.rows.now) s.rows.now toward_taken in
+      λ i. record (stage s) { model = x i; table = m.table (x i); docket = docket_is i; rows = rows_is i }
 
 abbrev pub middle : ℕ → ℕ → ℕ
 middle lo hi = (lo + hi) / 2
