@@ -1,5 +1,5 @@
 -- A pricing that is taken. Assumes nothing.
-use Rattle.std.proofs.Common.{◌≡◌, ℕ, ◌*◌, ◌≤◌, Bool, true, false, cond, not, ◌&&◌, eqb, ltb, leb, List, [], ◌∷◌, ◌++◌, length, ℤ, Some, None, All, sum, Option, refl, ap, ◌∙◌, inl, inr, arith}
+use Rattle.std.proofs.Common.{◌≡◌, ℕ, ◌*◌, ◌≤◌, Bool, true, false, cond, not, ◌&&◌, eqb, ltb, leb, List, [], ◌∷◌, ◌++◌, length, ℤ, Some, None, Ok, All, sum, Option, sym, refl, ap, ◌∙◌, inl, inr, arith}
 use lib.Signed.{lt_z}
 use Rattle.std.proofs.lemmas.List.Elements.{All-from_get_or}
 use Rattle.std.proofs.lemmas.List.Sums.{prefix_len-le-length}
@@ -13,9 +13,11 @@ use Rattle.plans.specs.Blends.{mean_up, mean_down}
 use Rattle.plans.specs.Plans.{no_objective, target_sum}
 use Rattle.sweep.specs.Swept as sweep
 use Rattle.sweep.specs.Swept.{all_pass, all_light, all_near, asked, answer}
-use Rattle.truth.specs.Dockets.{Docket, Priced, Refuted, judged, same, number, has_row, swept, ceiling, point, priced}
+use Rattle.truth.specs.Dockets.{Verdict, Docket, Priced, Refuted, judged, same, number, has_row, swept, ceiling, point, priced}
 use Rattle.truth.specs.Calls.{Cause, Fault, price, cause, first_of, refusal, small_weights}
 use Rattle.truth.proofs.Taken.{taken_exactly, decides_has_row}
+use Rattle.verdict.specs.Answers.{answered}
+use Rattle.verdict.proofs.Refused.{taken_none, taken_value}
 use Rattle.holdings.specs.Refusals.{weights_refusal, room_refusal}
 use Rattle.holdings.specs.Views.{held}
 use Rattle.holdings.proofs.Held.{length_held}
@@ -48,9 +50,23 @@ refusal_is t d ws lent o w l r =
     ∙ (λ i. or_else (w i) (first_append (cause (ltb lent (2 * length t.states)) 11 lent ∷ []) (cause (leb 16 (length d.table) && not (has_row ws d.table)) 12 16 ∷ []) i))
     ∙ (λ i. or_else (l i) (r i))
 
+-- none of the three sends it back
+module _ (t : Table) (d : Docket) (ws ks : List ℕ) (lent row : ℕ) (weighed : Ok ks ≡ answered (weights_refusal (length d.objectives) ws) ws)
+    (lends : lent_refusal t lent ≡ None) (placed : Ok row ≡ answered (room_refusal d.table ks) (number ks d.table)) where
+  pub same_weights : ks ≡ ws
+  same_weights = taken_value (weights_refusal (length d.objectives) ws) ks ws weighed
+
+  pub is_taken : refusal t d (price ws lent) ≡ None
+  is_taken =
+      refusal_is t d ws lent None (taken_none (weights_refusal (length d.objectives) ws) ks ws weighed) lends
+      (ap (room_refusal d.table) (sym same_weights) ∙ taken_none (room_refusal d.table ks) row (number ks d.table) placed)
+
+  pub row_is : row ≡ number ws d.table
+  row_is = taken_value (room_refusal d.table ks) row (number ks d.table) placed ∙ ap (λ v. number v d.table) same_weights
+
 -- its sweep is made
 module _ {M : Type 0} (t : Table) (d : code.Docket M) (ws : List ℕ) (old : List Row) (taken : refusal t (view d) (price ws (length old)) ≡ None)
-    (os : List Objective) (same-os : os ≡ held d.objectives) where
+    (os : List Objective) (same-os : os ≡ held d.objectives) (ks : List ℕ) (same-ks : ks ≡ ws) where
   askable : (asked (held d.objectives) ws && leb (2 * length t.states) (length old)) ≡ true
   askable =
       let xs = held d.objectives in
@@ -63,18 +79,17 @@ module _ {M : Type 0} (t : Table) (d : code.Docket M) (ws : List ℕ) (old : Lis
       (and_from (eqb (length ws) (length xs)) (all_light ws && all_near xs) (eq-eqb (length ws) (length xs) weighs.each) (and_from (all_light ws) (all_near xs) light near)))
       (le-leb (2 * length t.states) (length old) rich)
 
-  pub answer_is : answer mean_up mean_down t os ws old ≡ Some (swept t (held d.objectives) ws)
-  answer_is = ap (λ xs. answer mean_up mean_down t xs ws old) same-os ∙ ap (λ b. cond b (Some (swept t (held d.objectives) ws)) None) askable
+  pub answer_is : answer mean_up mean_down t os ks old ≡ Some (swept t (held d.objectives) ws)
+  answer_is = (λ i. answer mean_up mean_down t (same-os i) (same-ks i) old) ∙ ap (λ b. cond b (Some (swept t (held d.objectives) ws)) None) askable
 
-  pub rows_are : sweep.swept mean_up mean_down t os ws old ≡ priced_rows t (held d.objectives) ws old
-  rows_are = ap (λ xs. sweep.swept mean_up mean_down t xs ws old) same-os ∙ ap (λ b. cond b (priced_rows t (held d.objectives) ws old) old) askable
+  pub rows_are : sweep.swept mean_up mean_down t os ks old ≡ priced_rows t (held d.objectives) ws old
+  rows_are = (λ i. sweep.swept mean_up mean_down t (same-os i) (same-ks i) old) ∙ ap (λ b. cond b (priced_rows t (held d.objectives) ws old) old) askable
 
 -- the docket after it
-module _ (t : Table) (d e : Docket) (ws : List ℕ) (lent : ℕ) (taken : refusal t d (price ws lent) ≡ None) (row : ℕ) (r : Row) (x s : ℤ)
-    (row_is : row ≡ number ws d.table) (swept-is : r ≡ swept t d.objectives ws) (ceiling-is : x ≡ r.ceiling) (sum_is_lem : s ≡ target_sum ws d.objectives)
-    (kept : e.objectives ≡ d.objectives)
-    (turns : e.verdict ≡ judged d.verdict (lt_z x s) (Refuted ws x s))
-    (adds : e.table ≡ cond (eqb row (length d.table) && ltb row 16) (d.table ++ (record { weights = ws; point = r.parts } ∷ [])) d.table) where
+module _ (t : Table) (d : Docket) (ws ks : List ℕ) (same-ks : ks ≡ ws) (lent : ℕ) (taken : refusal t d (price ws lent) ≡ None) (row : ℕ) (r : Row) (x s : ℤ)
+    (row-is : row ≡ number ws d.table) (swept-is : r ≡ swept t d.objectives ws) (ceiling-is : x ≡ r.ceiling) (sum-is : s ≡ target_sum ks d.objectives)
+    (v : Verdict) (turns : v ≡ judged d.verdict (lt_z x s) (Refuted ks x s))
+    (rs : List Priced) (adds : rs ≡ cond (eqb row (length d.table) && ltb row 16) (d.table ++ (record { weights = ks; point = r.parts } ∷ [])) d.table) where
   -- a row is added unless there is one, and there is room
   placed : (new : List Priced) → cond (eqb (number ws d.table) (length d.table) && ltb (number ws d.table) 16) new d.table ≡ cond (has_row ws d.table) d.table new
   placed new =
@@ -87,14 +102,17 @@ module _ (t : Table) (d e : Docket) (ws : List ℕ) (lent : ℕ) (taken : refusa
   low : x ≡ ceiling t d.objectives ws
   low = ceiling-is ∙ ap (λ (q : Row). q.ceiling) swept-is
 
-  pub view_is : e ≡ priced t d ws
+  sums : s ≡ target_sum ws d.objectives
+  sums = sum-is ∙ ap (λ k. target_sum k d.objectives) same-ks
+
+  pub view_is : ◌≡◌ {A = Docket} (record { objectives = d.objectives; table = rs; verdict = v }) (priced t d ws)
   unfolding priced
   view_is =
       let table_is =
-      adds ∙ (λ i. cond (eqb (row_is i) (length d.table) && ltb (row_is i) 16) (d.table ++ (record { weights = ws; point = (swept-is i).parts } ∷ [])) d.table)
+      adds ∙ (λ i. cond (eqb (row-is i) (length d.table) && ltb (row-is i) 16) (d.table ++ (record { weights = same-ks i; point = (swept-is i).parts } ∷ [])) d.table)
       ∙ placed (d.table ++ (record { weights = ws; point = point t d.objectives ws } ∷ [])) in
-      let verdict-is = turns ∙ (λ i. judged d.verdict (lt_z (low i) (sum_is_lem i)) (Refuted ws (low i) (sum_is_lem i))) in
-      λ i. record { objectives = kept i; table = table_is i; verdict = verdict-is i }
+      let verdict-is = turns ∙ (λ i. judged d.verdict (lt_z (low i) (sums i)) (Refuted (same-ks i) (low i) (sums i))) in
+      λ i. record { objectives = d.objectives; table = table_is i; verdict = verdict-is i }
 
   pub price_is : ◌≡◌ {A = Price} (record { row = row; ceiling = x; target_sum = s; point = r.parts }) (price_of t d ws)
-  price_is = λ i. record { row = row_is i; ceiling = low i; target_sum = sum_is_lem i; point = (swept-is i).parts }
+  price_is = λ i. record { row = row-is i; ceiling = low i; target_sum = sums i; point = (swept-is i).parts }

@@ -1,146 +1,153 @@
 -- The pricings of a settle, as the code makes them. Assumes nothing.
-use Rattle.std.proofs.Common.{◌≡◌, ℕ, zero, suc, ◌+◌, ◌-◌, ◌/◌, ◌<◌, ◌≤◌, Bool, true, false, cond, ◌&&◌, ltb, List, [], ◌∷◌, length, fold, sym, refl, ap, ◌∙◌, arith}
+use Rattle.std.proofs.Common.{◌≡◌, ℕ, zero, suc, ◌+◌, ◌-◌, ◌/◌, ◌<◌, ◌≤◌, Bool, true, false, cond, ◌&&◌, ltb, List, [], ◌∷◌, length, None, fold, sym, refl, ap, ◌∙◌, inl, arith}
 use Rattle.std.proofs.lemmas.List.{length_push}
+use Rattle.std.proofs.lemmas.List.Elements.{All-nil, All-cons}
 use Rattle.std.proofs.lemmas.Bool.{lt-ltb, and_from}
-use Rattle.mdp.specs.Table.{Table}
+use Rattle.mdp.specs.declared.Model.{Ghosts}
 use Rattle.plans.specs.declared.Row.{Row}
-use Rattle.truth.specs.Dockets.{Docket, is_open, priced, cleared, toward, bisected, settle_prices}
+use Rattle.truth.specs.Dockets.{is_open, priced, cleared, toward, bisected, settle_prices}
+use Rattle.truth.specs.Calls.{Call, price, refusal, after, if_taken}
 use Rattle.truth.proofs.Rows.{row_of, rows_priced}
+use Rattle.truth.proofs.Taken.{taken_exactly, after_taken}
 use Rattle.truth.proofs.Narrowing.{prices_short}
+use Rattle.verdict.proofs.Refused.{if_none}
 use Rattle.docket.specs.declared.docket.Docket as code
+use Rattle.docket.specs.declared.docket.settling.Settling.{Settling}
 use Rattle.docket.specs.Views.{view}
 use Rattle.docket.specs.Pricing.{priced_rows}
-use Rattle.docket.specs.Settling.{brings, prices_on, all_priced_rows}
+use Rattle.docket.specs.Settling.{all_priced_rows}
+use Rattle.docket.specs.Stages.{Stage, stage, Room, brings, after_price, after_prices, bisections, prices_on, priced_anew}
 
--- a docket over its table, with the working rows
-pub record Stage : Type 0 where
-  pub table : Table
-  pub docket : Docket
-  pub rows : List Row
+-- a pricing toward the first objective is taken where there is room
+module _ {M : Type 0} {m : Ghosts M} (s : Settling M m) (a : ℕ) (room : Room (stage s) 1) (small : a ≤ 1000) where
+  abbrev call : Call
+  call = price (toward a) (length s.rows.now)
 
-abbrev pub work : Stage → List ℕ → Stage
-work s ws = record { table = s.table; docket = priced s.table s.docket ws; rows = priced_rows s.table s.docket.objectives ws s.rows }
+  toward_taken : refusal (stage s).table (stage s).docket call ≡ None
+  toward_taken =
+      ((taken_exactly (stage s).table (stage s).docket).price_if (toward a) (length s.rows.now)).1 (
+        record {
+          each = sym s.two;
+          small = All-cons (λ w. w ≤ 1000) a ((1000 - a) ∷ []) small (All-cons (λ w. w ≤ 1000) (1000 - a) [] (omega arith) (All-nil (λ w. w ≤ 1000)));
+          some = omega (arith, small);
+        },
+        s.lent,
+        inl (omega (arith, room)),
+      )
 
-abbrev pub stage : {M : Type 0} → (M → Table) → code.Docket M → List Row → Stage
-stage table d rs = record { table = table d.model; docket = view d; rows = rs }
-
-abbrev all_priced : Stage → List (List ℕ) → Stage
-all_priced s wss = record { table = s.table; docket = fold (priced s.table) s.docket wss; rows = all_priced_rows s.table s.docket.objectives s.rows wss }
-
-pub all_worked : (s : Stage) (wss : List (List ℕ)) → fold work s wss ≡ all_priced s wss
-unfolding priced
-all_worked s [] = refl
-all_worked s (ws ∷ wss) = all_worked (work s ws) wss
-
--- from the contracts' equations
-pub worked_by : {M : Type 0} (table : M → Table) (d e : code.Docket M) (rs new : List Row) (wss : List (List ℕ)) → e.model ≡ d.model →
-    view e ≡ fold (priced (table d.model)) (view d) wss → new ≡ all_priced_rows (table d.model) (view d).objectives rs wss → stage table e new ≡ fold work (stage table d rs) wss
-worked_by table d e rs new wss x y z = (λ i. record { table = table (x i); docket = y i; rows = z i }) ∙ sym (all_worked (stage table d rs) wss)
-
--- a pricing adds at most one row
-row_more : (s : Stage) (ws : List ℕ) → length (work s ws).docket.table ≤ length s.docket.table + 1
-row_more s ws =
-    rows_priced s.table s.docket ws (λ rs. length rs ≤ length s.docket.table + 1) (λ e. omega arith)
-    (λ e. omega (arith, length_push s.docket.table (row_of s.table s.docket ws)))
-
--- the bisections between lo and hi, at most n
-abbrev between : ℕ → Stage → ℕ → ℕ → List (List ℕ)
-between n s lo hi = bisected s.table n s.docket lo hi
-
-abbrev pub all_between : Stage → List (List ℕ)
-all_between s = between 1000 s 0 1000
-
-abbrev wants : Stage → ℕ → ℕ → Bool
-wants s lo hi = ltb 1 (hi - lo) && is_open s.docket.verdict
+  pub toward_leads : (d : code.Docket M) (rs : List Row) → d.model ≡ s.docket.now.model → view d ≡ after (stage s).table (stage s).docket call →
+      rs ≡ if_taken (refusal (stage s).table (stage s).docket call) (priced_rows (stage s).table (stage s).docket.objectives (toward a) s.rows.now) s.rows.now →
+      record (stage s) { model = d.model; table = m.table d.model; docket = view d; rows = rs } ≡ after_price (stage s) (toward a)
+  toward_leads d rs x y z =
+      let docket_is = y ∙ after_taken (stage s).table (stage s).docket call toward_taken in
+      let rows_is = z ∙ if_none (refusal (stage s).table (stage s).docket call) (priced_rows (stage s).table (stage s).docket.objectives (toward a) s.rows.now) s.rows.now toward_taken in
+      λ i. record (stage s) { model = x i; table = m.table (x i); docket = docket_is i; rows = rows_is i }
 
 abbrev pub middle : ℕ → ℕ → ℕ
 middle lo hi = (lo + hi) / 2
 
-abbrev pub brings_middle : Stage → ℕ → ℕ → Bool
-brings_middle s lo hi = brings s.table s.docket.objectives (middle lo hi)
+module _ {M : Type 0} where
+  pub all_priced : (s : Stage M) (wss : List (List ℕ)) →
+      after_prices s wss ≡ record s { docket = fold (priced s.table) s.docket wss; rows = all_priced_rows s.table s.docket.objectives s.rows wss }
+  unfolding priced
+  all_priced s [] = refl
+  all_priced s (ws ∷ wss) = all_priced (after_price s ws) wss
 
-abbrev worked : Stage → ℕ → ℕ → Stage
-worked s lo hi = work s (toward (middle lo hi))
+  -- a pricing adds at most one row
+  row_more : (s : Stage M) (ws : List ℕ) → length (after_price s ws).docket.table ≤ length s.docket.table + 1
+  row_more s ws =
+      rows_priced s.table s.docket ws (λ rs. length rs ≤ length s.docket.table + 1) (λ e. omega arith)
+      (λ e. omega (arith, length_push s.docket.table (row_of s.table s.docket ws)))
 
--- the middle, and then the lower half or the upper
-abbrev onward : ℕ → Stage → ℕ → ℕ → Bool → List (List ℕ)
-onward n s lo hi low = toward (middle lo hi) ∷ cond low (between n (worked s lo hi) lo (middle lo hi)) (between n (worked s lo hi) (middle lo hi) hi)
+  -- the bisections between lo and hi, at most n
+  abbrev between : ℕ → Stage M → ℕ → ℕ → List (List ℕ)
+  between n s lo hi = bisected s.table n s.docket lo hi
 
-by_test : (n : ℕ) (s : Stage) (lo hi : ℕ) (b : Bool) → wants s lo hi ≡ b → between (suc n) s lo hi ≡ cond b (onward n s lo hi (brings_middle s lo hi)) []
-unfolding bisected
-by_test n s lo hi b e = ap (λ x. cond x (onward n s lo hi (brings_middle s lo hi)) []) e
+  abbrev wants : Stage M → ℕ → ℕ → Bool
+  wants s lo hi = ltb 1 (hi - lo) && is_open s.docket.verdict
 
-none_between : (n : ℕ) (s : Stage) (lo hi : ℕ) → wants s lo hi ≡ false → between n s lo hi ≡ []
-unfolding bisected
-none_between zero s lo hi e = refl
-none_between (suc n) s lo hi e = by_test n s lo hi false e
+  abbrev halfway : Stage M → ℕ → ℕ → Stage M
+  halfway s lo hi = after_price s (toward (middle lo hi))
 
--- what is left to price at a stage leads to what all bisections of the first lead to
-pub record Left (first s : Stage) (lo hi : ℕ) : Type 0 where
-  pub steps : ℕ
-  pub enough : hi - lo ≤ suc steps
-  pub leads : fold work s (between steps s lo hi) ≡ fold work first (all_between first)
-  pub two : length s.docket.objectives ≡ 2
-  pub room : length s.docket.table + length (between steps s lo hi) ≤ 16
-  pub rising : lo < hi
-  pub small : hi ≤ 1000
+  -- the middle, and then the lower half or the upper
+  abbrev onward : ℕ → Stage M → ℕ → ℕ → Bool → List (List ℕ)
+  onward n s lo hi low = toward (middle lo hi) ∷ cond low (between n (halfway s lo hi) lo (middle lo hi)) (between n (halfway s lo hi) (middle lo hi) hi)
 
-module _ (first s : Stage) (lo hi : ℕ) (h : Left first s lo hi) where
-  pub ended : wants s lo hi ≡ false → s ≡ all_priced first (all_between first)
-  ended e = sym (ap (fold work s) (none_between h.steps s lo hi e)) ∙ h.leads ∙ all_worked first (all_between first)
+  by_test : (n : ℕ) (s : Stage M) (lo hi : ℕ) (b : Bool) → wants s lo hi ≡ b → between (suc n) s lo hi ≡ cond b (onward n s lo hi (brings s (middle lo hi))) []
+  unfolding bisected
+  by_test n s lo hi b e = ap (λ x. cond x (onward n s lo hi (brings s (middle lo hi))) []) e
 
-  -- one pricing more
-  module _ (wide : 1 < hi - lo) (is : is_open s.docket.verdict ≡ true) where
-    split : (b : Bool) → b ≡ brings_middle s lo hi → between h.steps s lo hi ≡ onward (h.steps - 1) s lo hi b
-    split b e =
-        let some : h.steps ≡ suc (h.steps - 1) = omega (arith, h.enough) in
-        ap (λ n. between n s lo hi) some
-        ∙ by_test (h.steps - 1) s lo hi true (and_from (ltb 1 (hi - lo)) (is_open s.docket.verdict) (lt-ltb 1 (hi - lo) wide) is)
-        ∙ ap (onward (h.steps - 1) s lo hi) (sym e)
+  none_between : (n : ℕ) (s : Stage M) (lo hi : ℕ) → wants s lo hi ≡ false → between n s lo hi ≡ []
+  unfolding bisected
+  none_between zero s lo hi e = refl
+  none_between (suc n) s lo hi e = by_test n s lo hi false e
 
-    pub room_left : length s.docket.table < 16
-    room_left = omega (arith, ap length (split (brings_middle s lo hi) refl), h.room)
+  -- what is left to price at a stage leads to what all bisections of the first lead to
+  pub record Left (first s : Stage M) (lo hi : ℕ) : Type 0 where
+    pub steps : ℕ
+    pub enough : hi - lo ≤ suc steps
+    pub leads : after_prices s (between steps s lo hi) ≡ after_prices first (bisections first)
+    pub room : Room s (length (between steps s lo hi))
+    pub rising : lo < hi
+    pub small : hi ≤ 1000
 
-    narrower : (l u : ℕ) → between h.steps s lo hi ≡ toward (middle lo hi) ∷ between (h.steps - 1) (worked s lo hi) l u → u - l ≤ h.steps → l < u → u ≤ 1000 → Left first (worked s lo hi) l u
-    unfolding priced
-    narrower l u e enough rising small = record {
-      steps = h.steps - 1;
-      enough = omega (arith, h.enough);
-      leads = sym (ap (fold work s) e) ∙ h.leads;
-      two = h.two;
-      room = omega (arith, ap length e, h.room, row_more s (toward (middle lo hi)));
-      rising = rising;
-      small = small;
-    }
+  module _ {first s : Stage M} {lo hi : ℕ} (h : Left first s lo hi) where
+    pub ended : wants s lo hi ≡ false → s ≡ after_prices first (bisections first)
+    ended e = sym (ap (after_prices s) (none_between h.steps s lo hi e)) ∙ h.leads
 
-    pub halved : (b : Bool) → b ≡ brings_middle s lo hi → Left first (worked s lo hi) (cond b lo (middle lo hi)) (cond b (middle lo hi) hi)
-    halved true e = narrower lo (middle lo hi) (split true e) (omega (arith, h.enough)) (omega arith) (omega (arith, h.small))
-    halved false e = narrower (middle lo hi) hi (split false e) (omega (arith, h.enough)) (omega arith) h.small
+    -- one pricing more
+    module _ (wide : 1 < hi - lo) (is : is_open s.docket.verdict ≡ true) where
+      split : (b : Bool) → b ≡ brings s (middle lo hi) → between h.steps s lo hi ≡ onward (h.steps - 1) s lo hi b
+      split b e =
+          let some : h.steps ≡ suc (h.steps - 1) = omega (arith, h.enough) in
+          ap (λ n. between n s lo hi) some
+          ∙ by_test (h.steps - 1) s lo hi true (and_from (ltb 1 (hi - lo)) (is_open s.docket.verdict) (lt-ltb 1 (hi - lo) wide) is)
+          ∙ ap (onward (h.steps - 1) s lo hi) (sym e)
 
--- the other end, and then between
-abbrev pub on : Stage → List (List ℕ)
-on s = prices_on s.table s.docket
+      pub room_left : Room s 1
+      room_left = omega (arith, ap length (split (brings s (middle lo hi)) refl), h.room)
 
-module _ (s : Stage) where
-  pub on_is : (b : Bool) → is_open s.docket.verdict ≡ b → on s ≡ cond b (toward 1000 ∷ all_between (work s (toward 1000))) []
-  unfolding prices_on
-  on_is b e = ap (λ x. cond x (toward 1000 ∷ all_between (work s (toward 1000))) []) e
+      narrower : (l u : ℕ) → between h.steps s lo hi ≡ toward (middle lo hi) ∷ between (h.steps - 1) (halfway s lo hi) l u → u - l ≤ h.steps → l < u → u ≤ 1000 → Left first (halfway s lo hi) l u
+      narrower l u e enough rising small = record {
+        steps = h.steps - 1;
+        enough = omega (arith, h.enough);
+        leads = sym (ap (after_prices s) e) ∙ h.leads;
+        room = omega (arith, ap length e, h.room, row_more s (toward (middle lo hi)));
+        rising = rising;
+        small = small;
+      }
 
-  pub room_between : is_open s.docket.verdict ≡ true → length s.docket.table + length (on s) ≤ 16 →
-      length (work s (toward 1000)).docket.table + length (all_between (work s (toward 1000))) ≤ 16
-  room_between e h = omega (arith, ap length (on_is true e), row_more s (toward 1000))
+      pub halved : (b : Bool) → b ≡ brings s (middle lo hi) → Left first (halfway s lo hi) (cond b lo (middle lo hi)) (cond b (middle lo hi) hi)
+      halved true e = narrower lo (middle lo hi) (split true e) (omega (arith, h.enough)) (omega arith) (omega (arith, h.small))
+      halved false e = narrower (middle lo hi) hi (split false e) (omega (arith, h.enough)) (omega arith) h.small
 
--- all pricings of a settle
-abbrev pub emptied : Stage → Stage
-emptied s = record { table = s.table; docket = cleared s.docket; rows = s.rows }
+  -- the other end, and then between
+  module _ (s : Stage M) where
+    pub on_is : (b : Bool) → is_open s.docket.verdict ≡ b → prices_on s ≡ cond b (toward 1000 ∷ bisections (after_price s (toward 1000))) []
+    on_is b e = ap (λ x. cond x (toward 1000 ∷ bisections (after_price s (toward 1000))) []) e
 
-module _ (s : Stage) where
-  abbrev pub one : Stage
-  one = work (emptied s) (toward 0)
+    pub room_between : is_open s.docket.verdict ≡ true → Room s (length (prices_on s)) → Room (after_price s (toward 1000)) (length (bisections (after_price s (toward 1000))))
+    room_between e h = omega (arith, ap length (on_is true e), row_more s (toward 1000))
 
-  pub prices_are : settle_prices s.table s.docket ≡ toward 0 ∷ on one
-  unfolding settle_prices prices_on
-  prices_are = refl
+  -- all pricings of a settle
+  abbrev pub emptied : Stage M → Stage M
+  emptied s = record s { docket = cleared s.docket }
 
-  pub room_on : length one.docket.table + length (on one) ≤ 16
-  room_on = omega (arith, prices_short s.table s.docket, ap length prices_are, row_more (emptied s) (toward 0))
+  module _ (s : Stage M) where
+    abbrev pub one : Stage M
+    one = after_price (emptied s) (toward 0)
+
+    prices_are : settle_prices s.table s.docket ≡ toward 0 ∷ prices_on one
+    unfolding settle_prices
+    prices_are = refl
+
+    pub room_on : Room one (length (prices_on one))
+    room_on = omega (arith, prices_short s.table s.docket, ap length prices_are, row_more (emptied s) (toward 0))
+
+    pub anew_is : after_prices one (prices_on one) ≡ priced_anew s
+    anew_is = sym (ap (after_prices (emptied s)) prices_are) ∙ all_priced (emptied s) (settle_prices s.table s.docket)
+
+-- cleared, and priced once
+pub one_is : {M : Type 0} {m : Ghosts M} (s : Settling M m) (d : code.Docket M) (after : Stage M) → d.model ≡ s.docket.now.model → view d ≡ cleared (view s.docket.now) →
+    after ≡ after_price (record (stage s) { model = d.model; table = m.table d.model; docket = view d }) (toward 0) → after ≡ one (stage s)
+one_is {m = m} s d after x y z = z ∙ (λ i. after_price (record (stage s) { model = x i; table = m.table (x i); docket = y i }) (toward 0))

@@ -1,61 +1,58 @@
 // Settling: the pricings and the mix that look for a verdict on two objectives.
-ghost use Rattle.std.specs.Prelude.{◌≡◌, ◌+◌, ◌*◌, ◌<◌, ◌≤◌, length, fold};
-ghost use Rattle.truth.specs.Dockets.{is_open, priced, mixed, toward, bisected, settle_priced, settle_mixes, settled};
+ghost use Rattle.std.specs.Prelude.{◌≡◌, ◌*◌, ◌≤◌, length, fold};
+ghost use Rattle.truth.specs.Dockets.{is_open, mixed, settle_mixes, settled};
 ghost use Rattle.truth.specs.Calls.{settle, refusal, after, if_taken};
 ghost use Rattle.verdict.specs.Answers.{told, told_docket, answered};
 ghost use Rattle.verdict.specs.Numbers.{docket_number};
 ghost use Rattle.verdict.specs.Verdicts.{verdict_of};
 ghost use Rattle.docket.specs.Views.{view};
-ghost use Rattle.docket.specs.Pricing.{priced_rows};
-ghost use Rattle.docket.specs.Settling.{brings, prices_on, all_priced_rows, settled_rows};
+ghost use Rattle.docket.specs.Settling.{settled_rows};
 
 use crate::docket::Docket;
-use fault::Fault;
+use fault::Cause;
 use mdp::Model;
 use plans::Row;
 use verdict::faults::{DocketCause, DocketFault};
-use verdict::verdict::{Event, Verdict};
+use verdict::verdict::Verdict;
 
-impl<M: Model> Docket<M> {
-    fn is_open(&self) -> bool
-        ensures { result ≡ is_open (view self.now).verdict }
-    {
-        match self.verdict {
-            Verdict::Open => true,
-            _ => false,
-        }
-    }
+// A docket of two objectives while it is settled, and working rows enough for its pricings.
+#[derive(Drop)]
+struct Settling<'a, M: Model> {
+    docket: &'a mut Docket<M>,
+    rows: &'a mut [Row],
+    ghost lent: { 2 * length (M.Model.table docket.now.model).states ≤ length rows.now },
+    ghost two: { length (view docket.now).objectives ≡ 2 },
+}
+
+impl<'a, M: Model> Settling<'a, M> {
+    ghost use Rattle.truth.specs.Dockets.{toward};
+    ghost use Rattle.docket.specs.Stages.{stage, Room, brings, after_price, after_prices, bisections, prices_on, priced_anew};
 
     // Prices toward the first objective by some weight of 1000, and answers whether its target is brought.
-    fn price_toward(&mut self, first: u16, rows: &mut [Row]) -> bool
-        requires lent { 2 * length (M.Model.table self.old.model).states ≤ length rows.old }
-        requires two { length (view self.old).objectives ≡ 2 }
-        requires room { length (view self.old).table < 16 }
+    fn price_toward(&mut self, first: u16) -> bool
+        requires room { Room (stage self.old) 1 }
         requires small { first ≤ 1000 }
-        ensures answer { result ≡ brings (M.Model.table self.old.model) (view self.old).objectives first }
-        ensures after { view self.new ≡ priced (M.Model.table self.old.model) (view self.old) (toward first) }
-        ensures rows { rows.new ≡ priced_rows (M.Model.table self.old.model) (view self.old).objectives (toward first) rows.old }
-        ensures model { self.new.model ≡ self.old.model }
+        ensures answer { result ≡ brings (stage self.old) first }
+        ensures after { stage self.new ≡ after_price (stage self.old) (toward first) }
     {
-        let target = self.objectives.as_slice()[0].target;
-        let price = self.price(&[first, 1000 - first], rows).unwrap();
+        let target = self.docket.objectives()[0].target;
+        let price = self
+            .docket
+            .price(&[first, 1000 - first], self.rows)
+            .unwrap();
         target <= price.point[0]
     }
 
     // Halves the weights between those that bring the first target and those that do not.
-    fn bisect(&mut self, rows: &mut [Row])
-        requires lent { 2 * length (M.Model.table self.old.model).states ≤ length rows.old }
-        requires two { length (view self.old).objectives ≡ 2 }
-        requires room { length (view self.old).table + length (bisected (M.Model.table self.old.model) 1000 (view self.old) 0 1000) ≤ 16 }
-        ensures after { view self.new ≡ fold (priced (M.Model.table self.old.model)) (view self.old) (bisected (M.Model.table self.old.model) 1000 (view self.old) 0 1000) }
-        ensures rows { rows.new ≡ all_priced_rows (M.Model.table self.old.model) (view self.old).objectives rows.old (bisected (M.Model.table self.old.model) 1000 (view self.old) 0 1000) }
-        ensures model { self.new.model ≡ self.old.model }
+    fn bisect(&mut self)
+        requires room { Room (stage self.old) (length (bisections (stage self.old))) }
+        ensures { stage self.new ≡ after_prices (stage self.old) (bisections (stage self.old)) }
     {
         let mut low: u16 = 0;
         let mut high: u16 = 1000;
-        while high - low > 1 && self.is_open() {
+        while high - low > 1 && self.docket.is_open() {
             let middle = (low + high) / 2;
-            if self.price_toward(middle, rows) {
+            if self.price_toward(middle) {
                 high = middle;
             } else {
                 low = middle;
@@ -64,31 +61,31 @@ impl<M: Model> Docket<M> {
     }
 
     // Prices the other end and then between, while the docket is open.
-    fn price_on(&mut self, rows: &mut [Row])
-        requires lent { 2 * length (M.Model.table self.old.model).states ≤ length rows.old }
-        requires two { length (view self.old).objectives ≡ 2 }
-        requires room { length (view self.old).table + length (prices_on (M.Model.table self.old.model) (view self.old)) ≤ 16 }
-        ensures after { view self.new ≡ fold (priced (M.Model.table self.old.model)) (view self.old) (prices_on (M.Model.table self.old.model) (view self.old)) }
-        ensures rows { rows.new ≡ all_priced_rows (M.Model.table self.old.model) (view self.old).objectives rows.old (prices_on (M.Model.table self.old.model) (view self.old)) }
-        ensures model { self.new.model ≡ self.old.model }
+    fn price_on(&mut self)
+        requires room { Room (stage self.old) (length (prices_on (stage self.old))) }
+        ensures { stage self.new ≡ after_prices (stage self.old) (prices_on (stage self.old)) }
     {
-        if self.is_open() {
-            self.price_toward(1000, rows);
-            self.bisect(rows);
+        if self.docket.is_open() {
+            self.price_toward(1000);
+            self.bisect();
         }
     }
 
     // Clears the docket and makes all pricings of a settle.
-    fn price_anew(&mut self, rows: &mut [Row])
-        requires lent { 2 * length (M.Model.table self.old.model).states ≤ length rows.old }
-        requires two { length (view self.old).objectives ≡ 2 }
-        ensures after { view self.new ≡ settle_priced (M.Model.table self.old.model) (view self.old) }
-        ensures rows { rows.new ≡ settled_rows (M.Model.table self.old.model) (view self.old) rows.old }
-        ensures model { self.new.model ≡ self.old.model }
+    fn price_anew(&mut self)
+        ensures { stage self.new ≡ priced_anew (stage self.old) }
     {
-        self.clear();
-        self.price_toward(0, rows);
-        self.price_on(rows);
+        self.docket.clear();
+        self.price_toward(0);
+        self.price_on();
+    }
+}
+
+impl<M: Model> Docket<M> {
+    fn is_open(&self) -> bool
+        ensures { result ≡ is_open (view self.now).verdict }
+    {
+        matches!(self.verdict, Verdict::Open)
     }
 
     // Mixes the first pair of rows that brings every target, if there is one and the docket is open.
@@ -96,10 +93,11 @@ impl<M: Model> Docket<M> {
         ensures after { view self.new ≡ fold mixed (view self.old) (settle_mixes (view self.old)) }
         ensures model { self.new.model ≡ self.old.model }
     {
-        if self.is_open() {
-            if let Some(shares) = self.table.find_pair(&self.objectives) {
-                self.verdict = self.verdict.after(Event::Mixed { shares, met: true });
-            }
+        if !self.is_open() {
+            return;
+        }
+        if let Some(shares) = self.table.find_pair(&self.objectives) {
+            self.verdict = Verdict::Achieved { shares };
         }
     }
 
@@ -109,10 +107,7 @@ impl<M: Model> Docket<M> {
         self.check_lent(lent)?;
         let objectives = self.objectives.as_slice().len();
         if objectives != 2 {
-            return Err(Fault {
-                cause: DocketCause::Settle,
-                place: objectives,
-            });
+            return Err(DocketCause::Settle.at(objectives));
         }
         Ok(())
     }
@@ -126,7 +121,7 @@ impl<M: Model> Docket<M> {
         ensures model { self.new.model ≡ self.old.model }
     {
         self.check_settle(rows.len())?;
-        self.price_anew(rows);
+        Settling { docket: self, rows }.price_anew();
         self.mix_pair();
         Ok(self.verdict)
     }
