@@ -5,16 +5,9 @@ use file_model::FileModel;
 use std::{fs, io};
 use summary::Summary;
 
-// A file that cannot be read counts as empty.
-fn read_or_empty(rt: &HostRuntime, path: &str) -> Vec<u8> {
-    match fs::read(rt, path) {
-        Ok(bytes) => bytes,
-        Err(_) => Vec::new(rt.alloc()),
-    }
-}
-
 fn main(rt: HostRuntime) -> io::Result<()> {
-    let bytes = read_or_empty(&rt, "model.bin");
+    // A file that cannot be read counts as empty.
+    let bytes = fs::read(&rt, "model.bin").unwrap_or(Vec::new(rt.alloc()));
     let model = FileModel::read(bytes.as_slice());
     match model.fault() {
         Some(fault) => println!(rt; "fault 0 {fault}"),

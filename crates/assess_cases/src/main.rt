@@ -1,90 +1,75 @@
 // What whole questions print.
 #![tactic(auto)]
 
-use anyhow::anyhow;
+ghost use Rattle.std.specs.Prelude.{◌<◌, ◌≤◌, length, OnOk};
+
+use anyhow::Context;
 use assessment::assess::{assess, print_fault};
+use byteorder::{LittleEndian, ReadBytesExt};
 use plans::Row;
 use std::fs;
 use std::io::Write;
 
-const ROWS: usize = 1024;
-
-const PRINT_BYTES: usize = 255;
+const OLD_ROW: Row = Row {
+    ceiling: 7,
+    parts: [7; 4],
+};
 
 // Room enough for a fault.
 const FAULT_BYTES: usize = 64;
 
-// Takes the cases apart from the front.
+// A question about a model, the working rows that are lent for it, and the room to print.
 #[derive(Drop)]
-struct Cases<'a> {
-    rest: &'a [u8],
+struct Case<'a> {
+    name: &'a [u8],
+    model: &'a [u8],
+    question: &'a [u8],
+    lent: u16,
+    room: u16,
 }
 
-impl<'a> Cases<'a> {
-    fn part(&mut self, size: usize) -> anyhow::Result<&'a [u8]> {
-        if size > self.rest.len() {
-            return Err(anyhow!("cases.bin is cut"));
-        }
-        let (part, rest) = self.rest.split_at(size);
-        self.rest = rest;
-        Ok(part)
-    }
+// Takes bytes off the cases that stand behind their number.
+fn read_sized<'a>(cases: &mut &'a [u8]) -> anyhow::Result<&'a [u8]>
+    ensures { OnOk result (length cases.new.now ≤ length cases.old.now) }
+{
+    let size = cases.read_u32::<LittleEndian>()?;
+    cases.split_off(..size as usize).context("cases.bin is cut")
+}
 
-    fn byte(&mut self) -> anyhow::Result<usize> {
-        match self.part(1)? {
-            [value] => Ok(*value as usize),
-            _ => Err(anyhow!("no byte")),
-        }
-    }
-
-    fn two(&mut self) -> anyhow::Result<usize> {
-        match self.part(2)? {
-            [low, high] => Ok(u16::from_le_bytes([*low, *high]) as usize),
-            _ => Err(anyhow!("no two bytes")),
-        }
-    }
-
-    fn four(&mut self) -> anyhow::Result<usize> {
-        match self.part(4)? {
-            [a, b, c, d] => Ok(u32::from_le_bytes([*a, *b, *c, *d]) as usize),
-            _ => Err(anyhow!("no four bytes")),
-        }
-    }
-
-    fn sized(&mut self) -> anyhow::Result<&'a [u8]> {
-        let size = self.four()?;
-        self.part(size)
-    }
+// Takes the first case off the cases.
+fn read_case<'a>(cases: &mut &'a [u8]) -> anyhow::Result<Case<'a>>
+    ensures { OnOk result (length cases.new.now < length cases.old.now) }
+{
+    let size = cases.read_u8()?;
+    Ok(Case {
+        name: cases
+            .split_off(..usize::from(size))
+            .context("cases.bin is cut")?,
+        model: read_sized(cases)?,
+        question: read_sized(cases)?,
+        lent: cases.read_u16::<LittleEndian>()?,
+        room: cases.read_u16::<LittleEndian>()?,
+    })
 }
 
 fn show(rt: &HostRuntime, text: &[u8], length: usize) -> anyhow::Result<()> {
-    if length > text.len() {
-        return Err(anyhow!("longer than its bytes"));
-    }
-    rt.stdout().write_all(&text[0..length])?;
+    let text = text.get(..length).context("longer than its bytes")?;
+    rt.stdout().write_all(text)?;
     Ok(())
 }
 
-fn run_case(rt: &HostRuntime, cases: &mut Cases) -> anyhow::Result<()> {
-    let size = cases.byte()?;
-    let name = cases.part(size)?;
-    let model = cases.sized()?;
-    let question = cases.sized()?;
-    let lent = cases.two()?;
-    let room = cases.two()?;
-    if lent > ROWS || room > PRINT_BYTES {
-        return Err(anyhow!("more is lent than there is"));
-    }
-    let mut rows = [Row {
-        ceiling: 7,
-        parts: [7; 4],
-    }; ROWS];
-    let mut print = [0; PRINT_BYTES];
-    show(rt, name, size)?;
+fn run_case(rt: &HostRuntime, case: &Case) -> anyhow::Result<()> {
+    let mut rows = vec![in rt.alloc(); OLD_ROW; usize::from(case.lent)]?;
+    let mut page = vec![in rt.alloc(); 0; usize::from(case.room)]?;
+    rt.stdout().write_all(case.name)?;
     println!(rt; ":")?;
-    let page = &mut print[0..room];
-    match assess(model, question, &mut rows[0..lent], page) {
-        Ok(length) => show(rt, page, length),
+    match assess(
+        case.model,
+        case.question,
+        rows.as_mut_slice(),
+        page.as_mut_slice(),
+    ) {
+        Ok(length) => show(rt, page.as_slice(), length),
         Err(fault) => {
             let mut line = [0; FAULT_BYTES];
             let length = print_fault(fault, &mut line).unwrap_or(0);
@@ -95,14 +80,10 @@ fn run_case(rt: &HostRuntime, cases: &mut Cases) -> anyhow::Result<()> {
 
 fn run(rt: &HostRuntime) -> anyhow::Result<()> {
     let all = fs::read(rt, "cases.bin")?;
-    let mut cases = Cases {
-        rest: all.as_slice(),
-    };
-    for _ in 0..all.len() {
-        if cases.rest.is_empty() {
-            break;
-        }
-        run_case(rt, &mut cases)?;
+    let mut cases = all.as_slice();
+    while !cases.is_empty() {
+        let case = read_case(&mut cases)?;
+        run_case(rt, &case)?;
     }
     Ok(())
 }

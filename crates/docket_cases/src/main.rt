@@ -1,7 +1,7 @@
 // Calls on drafts and dockets, one to a line: what each answers, and what the docket shows after it.
 #![tactic(auto)]
 
-use anyhow::anyhow;
+use anyhow::{Context, bail};
 use docket::docket::{Docket, Price};
 use docket::draft::Draft;
 use fault::{Cause, Fault};
@@ -9,31 +9,15 @@ use file_model::FileModel;
 use mdp::Model;
 use plans::{Objective, Row};
 use std::fs;
-use verdict::faults::DocketFault;
 use verdict::verdict::Verdict;
 
+// The working rows, of which a call is lent the first ones.
 const WORK: usize = 1024;
 
 const OLD_ROW: Row = Row {
     ceiling: 7,
     parts: [7; 4],
 };
-
-// The lines that are left.
-#[derive(Drop)]
-struct Script<'a> {
-    rest: &'a str,
-}
-
-impl<'a> Script<'a> {
-    fn line(&mut self) -> anyhow::Result<&'a str> {
-        let Some((line, rest)) = self.rest.split_once("\n") else {
-            return Err(anyhow!("calls.txt is cut"));
-        };
-        self.rest = rest;
-        Ok(line)
-    }
-}
 
 // The word that a line begins with, and its numbers.
 #[derive(Drop)]
@@ -44,54 +28,23 @@ struct Call<'a> {
 
 fn read_call<'a>(rt: &HostRuntime, line: &'a str) -> anyhow::Result<Call<'a>> {
     let (word, rest) = line.split_once(" ").unwrap_or((line, ""));
-    let mut numbers = Vec::new(rt.alloc());
-    for number in rest.split_whitespace() {
-        numbers.push(number.parse::<i64>()?)?;
-    }
+    let numbers = rest
+        .split_whitespace()
+        .map(|number| number.parse::<i64>().map_err(anyhow::Error::from))
+        .try_collect(rt.alloc())?;
     Ok(Call { word, numbers })
 }
 
 fn small_numbers(rt: &HostRuntime, numbers: &[i64]) -> anyhow::Result<Vec<u16>> {
-    let mut small = Vec::new(rt.alloc());
-    for number in numbers {
-        small.push(u16::try_from(*number)?)?;
-    }
-    Ok(small)
+    numbers
+        .iter()
+        .map(|number| u16::try_from(*number).map_err(anyhow::Error::from))
+        .try_collect(rt.alloc())
 }
 
-fn hex_digit(digit: u8) -> anyhow::Result<u8> {
-    match digit {
-        b'0'..=b'9' => Ok(digit - b'0'),
-        b'a'..=b'f' => Ok(digit - b'a' + 10),
-        _ => Err(anyhow!("no hex digit")),
-    }
-}
-
-fn from_hex(rt: &HostRuntime, text: &str) -> anyhow::Result<Vec<u8>> {
-    let mut bytes = Vec::new(rt.alloc());
-    for pair in text.as_bytes().chunks(2) {
-        match pair {
-            [high, low] => bytes.push(hex_digit(*high)? << 4 | hex_digit(*low)?)?,
-            _ => return Err(anyhow!("half a byte")),
-        }
-    }
-    Ok(bytes)
-}
-
-// The working rows, of which a call is lent the first ones.
-#[derive(Drop)]
-struct Work {
-    rows: [Row; WORK],
-}
-
-impl Work {
-    fn lend(&mut self, lent: i64) -> anyhow::Result<&mut [Row]> {
-        let lent = usize::try_from(lent)?;
-        if lent > WORK {
-            return Err(anyhow!("too many working rows"));
-        }
-        Ok(&mut self.rows[0..lent])
-    }
+fn lend(work: &mut [Row], lent: i64) -> anyhow::Result<&mut [Row]> {
+    work.get_mut(..usize::try_from(lent)?)
+        .context("too many working rows")
 }
 
 fn show_small(rt: &HostRuntime, numbers: &[u16]) -> anyhow::Result<()> {
@@ -141,9 +94,9 @@ fn show_docket<M: Model>(rt: &HostRuntime, docket: &Docket<M>, work: Row) -> any
         print!(rt; " :")?;
         show_parts(rt, row.point)?;
     }
-    let ceiling = work.ceiling;
+    let Row { ceiling, parts } = work;
     print!(rt; "; work {ceiling}")?;
-    show_parts(rt, work.parts)?;
+    show_parts(rt, parts)?;
     println!(rt; "")?;
     Ok(())
 }
@@ -154,11 +107,14 @@ fn show_fault<C: Cause + Drop>(rt: &HostRuntime, fault: Fault<C>) -> anyhow::Res
 }
 
 fn show_price(rt: &HostRuntime, price: Price) -> anyhow::Result<()> {
-    let row = price.row;
-    let ceiling = price.ceiling;
-    let target_sum = price.target_sum;
+    let Price {
+        row,
+        ceiling,
+        target_sum,
+        point,
+    } = price;
     print!(rt; "row {row} ceiling {ceiling} target sum {target_sum} point")?;
-    show_parts(rt, price.point)?;
+    show_parts(rt, point)?;
     println!(rt; "")?;
     Ok(())
 }
@@ -167,13 +123,13 @@ fn make_price<M: Model>(
     rt: &HostRuntime,
     docket: &mut Docket<M>,
     numbers: &[i64],
-    work: &mut Work,
+    work: &mut [Row],
 ) -> anyhow::Result<()> {
     let [lent, weights @ ..] = numbers else {
-        return Err(anyhow!("no rows are lent"));
+        bail!("no rows are lent");
     };
     let weights = small_numbers(rt, weights)?;
-    match docket.price(weights.as_slice(), work.lend(*lent)?) {
+    match docket.price(weights.as_slice(), lend(work, *lent)?) {
         Ok(price) => show_price(rt, price),
         Err(fault) => show_fault(rt, fault),
     }
@@ -209,12 +165,12 @@ fn make_settle<M: Model>(
     rt: &HostRuntime,
     docket: &mut Docket<M>,
     numbers: &[i64],
-    work: &mut Work,
+    work: &mut [Row],
 ) -> anyhow::Result<()> {
     let [lent] = numbers else {
-        return Err(anyhow!("no rows are lent"));
+        bail!("no rows are lent");
     };
-    match docket.settle(work.lend(*lent)?) {
+    match docket.settle(lend(work, *lent)?) {
         Ok(Verdict::Open) => println!(rt; "open")?,
         Ok(Verdict::Achieved { .. }) => println!(rt; "achieved")?,
         Ok(Verdict::Refuted { .. }) => println!(rt; "refuted")?,
@@ -227,7 +183,7 @@ fn make_call<M: Model>(
     rt: &HostRuntime,
     docket: &mut Docket<M>,
     line: &str,
-    work: &mut Work,
+    work: &mut [Row],
 ) -> anyhow::Result<()> {
     let call = read_call(rt, line)?;
     let numbers = call.numbers.as_slice();
@@ -241,15 +197,15 @@ fn make_call<M: Model>(
             docket.clear();
             println!(rt; "done")?;
         }
-        _ => return Err(anyhow!("no such call")),
+        _ => bail!("no such call"),
     }
-    show_docket(rt, docket, work.rows[0])
+    show_docket(rt, docket, *work.first().context("no rows")?)
 }
 
 fn make_add<M: Model>(rt: &HostRuntime, draft: &mut Draft<M>, line: &str) -> anyhow::Result<()> {
     let call = read_call(rt, line)?;
     let [column, bound, target] = call.numbers.as_slice() else {
-        return Err(anyhow!("an objective has three numbers"));
+        bail!("an objective has three numbers");
     };
     let objective = Objective {
         column: usize::try_from(*column)?,
@@ -264,51 +220,32 @@ fn make_add<M: Model>(rt: &HostRuntime, draft: &mut Draft<M>, line: &str) -> any
     Ok(())
 }
 
-// One case: objectives up to `pose`, then calls up to `end`.
-fn run_case(rt: &HostRuntime, script: &mut Script, hex: &str) -> anyhow::Result<()> {
-    let bytes = from_hex(rt, hex)?;
+// One case: a model, objectives up to `pose`, then calls.
+fn run_case(rt: &HostRuntime, case: &str) -> anyhow::Result<()> {
+    let (name, rest) = case.split_once(" ").context("no model")?;
+    let (hex, rest) = rest.split_once("\n").context("no objectives")?;
+    let (objectives, calls) = rest.split_once("pose\n").context("no pose")?;
+    println!(rt; "case {name}")?;
+    let bytes = hex::decode(rt.alloc(), hex)?;
     let mut draft = Draft::over(FileModel::read(bytes.as_slice()));
-    for _ in 0..script.rest.len() {
-        let line = script.line()?;
-        if line == "pose" {
-            break;
-        }
+    for line in objectives.lines() {
         make_add(rt, &mut draft, line)?;
     }
     let mut docket = draft.pose();
-    let mut work = Work {
-        rows: [OLD_ROW; WORK],
-    };
+    let mut work = [OLD_ROW; WORK];
     println!(rt; "pose -> posed")?;
-    show_docket(rt, &docket, work.rows[0])?;
-    for _ in 0..script.rest.len() {
-        let line = script.line()?;
-        if line == "end" {
-            break;
-        }
+    show_docket(rt, &docket, work[0])?;
+    for line in calls.lines() {
         make_call(rt, &mut docket, line, &mut work)?;
     }
     Ok(())
 }
 
+// Each case lies between `case ` and `end`.
 fn run(rt: &HostRuntime) -> anyhow::Result<()> {
     let text = fs::read_to_string(rt, "calls.txt")?;
-    let mut script = Script {
-        rest: text.as_str(),
-    };
-    for _ in 0..text.len() {
-        if script.rest.is_empty() {
-            break;
-        }
-        let line = script.line()?;
-        let Some(rest) = line.strip_prefix("case ") else {
-            return Err(anyhow!("no case"));
-        };
-        let Some((name, hex)) = rest.split_once(" ") else {
-            return Err(anyhow!("no model"));
-        };
-        println!(rt; "case {name}")?;
-        run_case(rt, &mut script, hex)?;
+    for case in text.split_terminator("end\n") {
+        run_case(rt, case.strip_prefix("case ").context("no case")?)?;
     }
     Ok(())
 }

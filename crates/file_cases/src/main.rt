@@ -1,46 +1,37 @@
 // What the check says of many files, each with its name.
 #![tactic(auto)]
 
-use anyhow::anyhow;
+ghost use Rattle.std.specs.Prelude.{◌<◌, length, OnOk};
+
+use anyhow::Context;
+use byteorder::{LittleEndian, ReadBytesExt};
 use file_check::check::check;
 use std::fs;
 
-// The part of the given size, and what follows it.
-fn part(bytes: &[u8], size: usize) -> anyhow::Result<(&[u8], &[u8])> {
-    if size <= bytes.len() {
-        Ok(bytes.split_at(size))
-    } else {
-        Err(anyhow!("cases.bin is cut"))
-    }
-}
-
-// The name and the file of the first case, and the cases after it.
-fn first_case(cases: &[u8]) -> anyhow::Result<(&str, &[u8], &[u8])> {
-    let [size, rest @ ..] = cases else {
-        return Err(anyhow!("no case"));
-    };
-    let (name, rest) = part(rest, *size as usize)?;
-    let [a, b, c, d, rest @ ..] = rest else {
-        return Err(anyhow!("no size of a file"));
-    };
-    let size = u32::from_le_bytes([*a, *b, *c, *d]);
-    let (file, rest) = part(rest, size as usize)?;
-    Ok((std::str::from_utf8(name)?, file, rest))
+// Takes the name and the file of the first case off the cases.
+fn read_case<'a>(cases: &mut &'a [u8]) -> anyhow::Result<(&'a str, &'a [u8])>
+    ensures { OnOk result (length cases.new.now < length cases.old.now) }
+{
+    let size = cases.read_u8()?;
+    let name = cases
+        .split_off(..usize::from(size))
+        .context("cases.bin is cut")?;
+    let size = cases.read_u32::<LittleEndian>()?;
+    let file = cases
+        .split_off(..size as usize)
+        .context("cases.bin is cut")?;
+    Ok((std::str::from_utf8(name)?, file))
 }
 
 fn run(rt: &HostRuntime) -> anyhow::Result<()> {
     let all = fs::read(rt, "cases.bin")?;
     let mut cases = all.as_slice();
-    for _ in 0..all.len() {
-        if cases.is_empty() {
-            break;
-        }
-        let (name, file, rest) = first_case(cases)?;
+    while !cases.is_empty() {
+        let (name, file) = read_case(&mut cases)?;
         match check(file) {
             Ok(()) => println!(rt; "{name}: ok")?,
             Err(fault) => println!(rt; "{name}: {fault}")?,
         }
-        cases = rest;
     }
     Ok(())
 }
