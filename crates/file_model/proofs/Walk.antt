@@ -1,39 +1,42 @@
--- One turn of the walk over a block's choices.
-use Rattle.std.proofs.Common.{◌≡◌, ℕ, zero, suc, ◌+◌, ◌-◌, ◌<◌, ◌≤◌, true, false, cond, ltb, List, [], ◌∷◌, ◌++◌, length, get_or, take, set, sym, refl, ap, ◌∙◌, arith}
-use Rattle.std.proofs.lemmas.List.{take_more_set, append_assoc}
+-- One turn of the walks over a block's choices and over the states.
+use Rattle.std.proofs.Common.{◌≡◌, ℕ, zero, suc, ◌+◌, ◌-◌, ◌<◌, ◌≤◌, List, [], ◌∷◌, ◌++◌, length, sym, refl, ap, ◌∙◌, zero-add, arith, length-append, map, if◌then◌else◌, nat_lt}
+use Rattle.std.specs.List.{range_with_len}
+use Rattle.std.proofs.lemmas.List.{append_assoc, length-map, map_push}
+use Rattle.std.proofs.lemmas.List.FromFn.{length-map-range_with_len, map-range_with_len_more}
 use Rattle.std.proofs.lemmas.Bool.{cond-true, cond-false, lt-ltb, le-ltb}
-use Rattle.mdp.specs.Limits.{max_choices}
-use Rattle.file_check.specs.Check.{word, choice_after, block_end}
-use Rattle.file_check.specs.Places.{pair_place, starts_in}
+use Rattle.few.specs.declared.Few.{Few}
+use Rattle.few.specs.Views.{listed}
+use Rattle.mdp.specs.Limits.{max_states, max_choices}
+use Rattle.file_check.specs.Check.{choice_after}
+use Rattle.file_check.specs.Places.{starts_in, choice_starts}
 use Rattle.file_check.proofs.Steps.{less}
-use Rattle.file_model.specs.declared.ChoiceIndex.{ChoiceIndex}
-use Rattle.file_model.specs.Index.{no_choices, Counted}
 
-pub starts_all : (xs : List ℕ) (c e p n : ℕ) → n ≡ 0 → starts_in xs c e p n ≡ []
-unfolding starts_in
-starts_all xs c e p n z = rw z refl
-
-pub few_starts : (xs : List ℕ) (c e n p : ℕ) → length (starts_in xs c e p n) ≤ n
-unfolding starts_in
-few_starts xs c e zero p = omega arith
-few_starts xs c e (suc n) p =
-    let k = few_starts xs c e n (choice_after xs c p) in
-    elim (ltb p e) as (λ t. length (cond t (p ∷ starts_in xs c e (choice_after xs c p) n) []) ≤ suc n) [ true ↦ omega arith | false ↦ omega arith ]
-
-pub few_choices : (xs : List ℕ) (index : List ChoiceIndex) → Counted xs index → (s : ℕ) → s < word xs 0 → (get_or index s no_choices).count ≤ max_choices
-few_choices xs index f s h = omega (arith, f s h, few_starts xs (get_or xs 6 0) (block_end xs (pair_place s)) max_choices (word xs (pair_place s)))
-
-module _ (xs : List ℕ) (c e p n i : ℕ) (h : i < n) where
-  starts_turn : starts_in xs c e p (n - i) ≡ cond (ltb p e) (p ∷ starts_in xs c e (choice_after xs c p) (n - (i + 1))) []
+module _ (xs : List ℕ) (c e p : ℕ) where
+  pub starts_none : (n : ℕ) → e ≤ p → starts_in xs c e p n ≡ []
   unfolding starts_in
-  starts_turn = rw (less n i h) refl
+  starts_none zero b = refl
+  starts_none (suc n) b = cond-false _ _ _ (le-ltb _ _ b)
 
-  pub starts_none : e ≤ p → starts_in xs c e p (n - i) ≡ []
-  starts_none b = starts_turn ∙ cond-false _ _ _ (le-ltb _ _ b)
+  pub starts_all : (n : ℕ) → n ≡ 0 → starts_in xs c e p n ≡ []
+  unfolding starts_in
+  starts_all n z = rw z refl
+
+  -- one more start
+  starts_more : (n i : ℕ) → i < n → p < e → starts_in xs c e p (n - i) ≡ p ∷ starts_in xs c e (choice_after xs c p) (n - (i + 1))
+  unfolding starts_in
+  starts_more n i h b = rw (less n i h) (cond-true _ _ _ (lt-ltb _ _ b))
 
   -- one more start is written down
-  pub starts_more : {q : ℕ} (ys all : List ℕ) → i < length ys → p < e → q ≡ choice_after xs c p → all ≡ take i ys ++ starts_in xs c e p (n - i)
-      → all ≡ take (i + 1) (set ys i p) ++ starts_in xs c e q (n - (i + 1))
-  starts_more {q} ys all l b k a =
-      a ∙ (ap (λ t. take i ys ++ t) (starts_turn ∙ (cond-true _ _ _ (lt-ltb _ _ b) ∙ ap (λ m. p ∷ starts_in xs c e m (n - (i + 1))) (sym k)))
-      ∙ (sym (append_assoc (take i ys) (p ∷ []) (starts_in xs c e q (n - (i + 1)))) ∙ ap (λ t. t ++ starts_in xs c e q (n - (i + 1))) (sym (take_more_set ys i p l))))
+  pub starts_pushed : (n q : ℕ) (ys zs all : List ℕ) → length ys < n → p < e → zs ≡ ys ++ (p ∷ []) → q ≡ choice_after xs c p
+      → all ≡ ys ++ starts_in xs c e p (n - length ys) → all ≡ zs ++ starts_in xs c e q (n - length zs)
+  starts_pushed n q ys zs all h b z k a =
+      rw (z, length-append ys (p ∷ []), k) (a ∙ (ap (λ t. ys ++ t) (starts_more n (length ys) h b) ∙ sym (append_assoc ys (p ∷ []) _)))
+
+pub index_pushed : (xs : List ℕ) (index more : List (Few ℕ max_choices)) (s : ℕ) (starts : Few ℕ max_choices) → s < max_states
+    → more ≡ (if nat_lt (length index) max_states then index ++ (starts ∷ []) else index) → listed starts ≡ choice_starts xs s
+    → map listed index ≡ map (choice_starts xs) (range_with_len 0 s) → map listed more ≡ map (choice_starts xs) (range_with_len 0 (s + 1))
+index_pushed xs index more s starts h m e a =
+    let long : length index ≡ s = sym (length-map index listed) ∙ (ap length a ∙ length-map-range_with_len (choice_starts xs) 0 s) in
+    let room : length index < max_states = omega arith in
+    let all : more ≡ index ++ (starts ∷ []) = m ∙ cond-true _ _ _ (lt-ltb _ _ room) in
+    rw (all, map_push listed index starts, e, a) (sym (map-range_with_len_more (choice_starts xs) 0 s s (zero-add s)))

@@ -2,8 +2,7 @@
 use Rattle.std.proofs.Common.{◌≡◌, ℕ, zero, suc, ◌≤◌, Bool, true, false, ◌&&◌, ltb, List, [], ◌∷◌, length, is_ok, Err, sym, refl, ap, ◌∙◌, subst, arith, lit≤}
 use Rattle.std.proofs.lemmas.Bool.{and_parts, ltb-true, cond-true, cond-false}
 use Rattle.mdp.specs.Table.{Table}
-use Rattle.mdp.specs.Limits.{max_states}
-use Rattle.file_check.specs.Check.{word, FileFault, check_result}
+use Rattle.file_check.specs.Check.{FileFault, check_result}
 use Rattle.file_check.specs.Decode.{decode}
 use Rattle.file_check.specs.Accepts.{accepted, Bytes, FileOf, blank, read_table}
 use Rattle.file_check.proofs.Accepted.{accepted_passed, layout}
@@ -34,9 +33,6 @@ blank_typed e = subst Bytes (sym e) (below_bytes blank_bytes blank_below)
 
 pub blank_long : {xs : List ℕ} → xs ≡ blank_bytes → 8 ≤ length xs
 blank_long e = subst (λ t. 8 ≤ length t) (sym e) (lit≤ tt)
-
-pub blank_few : {xs : List ℕ} → xs ≡ blank_bytes → word xs 0 ≤ max_states
-blank_few e = subst (λ t. word t 0 ≤ max_states) (sym e) (lit≤ tt)
 
 pub blank_accepted : {xs : List ℕ} → xs ≡ blank_bytes → accepted xs ≡ true
 unfolding accepted

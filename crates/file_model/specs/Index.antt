@@ -1,21 +1,23 @@
 -- Where the choices of each state stand, and what of a file reading it relies on. Assumes nothing.
-use Rattle.std.specs.Prelude.{◌≡◌, ℕ, ◌+◌, ◌*◌, ◌<◌, ◌≤◌, cond, List, [], ◌∷◌, length, take, ℤ, pos, nat_lt, slice_index, slice_index_or}
-use Rattle.mdp.specs.Limits.{max_states}
+use Rattle.std.specs.Prelude.{◌≡◌, ℕ, ◌+◌, ◌*◌, ◌<◌, ◌≤◌, List, [], ◌∷◌, map, length, ℤ, pos, slice_index}
+use Rattle.std.specs.List.{range_with_len, slice_get}
+use Rattle.std.specs.Option.{unwrap_or}
+use Rattle.few.specs.declared.Few.{Few}
+use Rattle.few.specs.Views.{listed}
+use Rattle.mdp.specs.Limits.{max_states, max_choices}
+use Rattle.mdp.specs.Table.{Branch}
+use Rattle.mdp.specs.declared.WholeBranch.{WholeBranch}
 use Rattle.file_check.specs.Check.{max_file, word, block_end}
-use Rattle.file_check.specs.Decode.{reward_in}
+use Rattle.file_check.specs.Decode.{branch_in}
 use Rattle.file_check.specs.Places.{pair_place, choice_starts}
-use Rattle.file_model.specs.declared.ChoiceIndex.{ChoiceIndex}
 
-abbrev pub no_choices : ChoiceIndex
-no_choices = record { count = 0; starts = [] }
+-- where the choices of each state stand
+abbrev pub starts_of : List ℕ → List (List ℕ)
+starts_of xs = map (choice_starts xs) (range_with_len 0 (word xs 0))
 
--- the index says how many choices each state has
-abbrev pub Counted : List ℕ → List ChoiceIndex → Type 0
-Counted xs index = (s : ℕ) → s < word xs 0 → (slice_index_or index s no_choices).count ≡ length (choice_starts xs s)
-
--- and where they stand
-abbrev pub Indexed : List ℕ → List ChoiceIndex → Type 0
-Indexed xs index = (s : ℕ) → s < word xs 0 → take (slice_index_or index s no_choices).count (slice_index_or index s no_choices).starts ≡ choice_starts xs s
+-- the index says where
+abbrev pub Indexed : List ℕ → List (Few ℕ max_choices) → Type 0
+Indexed xs index = map listed index ≡ starts_of xs
 
 -- the pairs and blocks of a file lie within it
 pub record Whole (xs : List ℕ) : Type 0 where
@@ -24,12 +26,19 @@ pub record Whole (xs : List ℕ) : Type 0 where
   pub room : 8 + 4 * word xs 0 ≤ length xs
   pub blocks : (s : ℕ) → s < word xs 0 → block_end xs (pair_place s) ≤ length xs
 
--- the reward in a column of the branch at an offset, 0 in a column that the file lacks
-abbrev pub reward_or_none : List ℕ → ℕ → ℕ → ℤ
-reward_or_none xs a i = cond (nat_lt i (slice_index xs 6)) (reward_in xs (a + 4 + i * 2)) (pos 0)
+-- the branch that stands at an offset
+abbrev pub branch_there : List ℕ → ℕ → Branch
+branch_there xs p = branch_in xs (slice_index xs 6) p
 
-abbrev pub rewards_in : List ℕ → ℕ → List ℤ
-rewards_in xs a = reward_or_none xs a 0 ∷ reward_or_none xs a 1 ∷ reward_or_none xs a 2 ∷ reward_or_none xs a 3 ∷ []
+-- a branch's reward in a column, 0 in one that it lacks
+abbrev pub reward_or_zero : Branch → ℕ → ℤ
+reward_or_zero b i = unwrap_or (slice_get b.rewards i) (pos 0)
+
+abbrev pub all_rewards : Branch → List ℤ
+all_rewards b = reward_or_zero b 0 ∷ reward_or_zero b 1 ∷ reward_or_zero b 2 ∷ reward_or_zero b 3 ∷ []
+
+abbrev pub whole : Branch → WholeBranch
+whole b = record { weight = b.weight; next = b.next; rewards = all_rewards b }
 
 -- the file of the blank table
 abbrev pub blank_bytes : List ℕ

@@ -1,30 +1,30 @@
 // A model read from bytes.
 #![tactic(auto)]
 
-ghost use Rattle.std.specs.Prelude.{◌≡◌, ℕ, ◌+◌, ◌*◌, ◌^◌, ◌<◌, ◌≤◌, true, length, take, pos, IfSome, if◌then◌else◌, nat_lt, slice_index};
+ghost use Rattle.std.specs.Prelude.{◌≡◌, ℕ, ◌+◌, ◌*◌, ◌^◌, ◌<◌, ◌≤◌, true, length, IfSome, slice_index};
+ghost use Rattle.std.specs.List.{slice_get};
 ghost use Rattle.std.specs.Option.{option_map};
 ghost use Rattle.std.specs.Result.{result_err};
+ghost use Rattle.few.specs.Views.{listed};
 ghost use Rattle.mdp.specs.Table.{Table};
 ghost use Rattle.mdp.specs.Questions.{choice_of, branch_of};
 ghost use Rattle.file_check.specs.Check.{word, branch_size, choice_after, check_result};
 ghost use Rattle.file_check.specs.Places.{starts_in};
-ghost use Rattle.file_check.specs.Decode.{choice_in, branch_in, reward_in, decode};
+ghost use Rattle.file_check.specs.Decode.{choice_in, decode};
 ghost use Rattle.file_check.specs.Accepts.{accepted, Bytes, FileOf, read_table};
 ghost use Rattle.file_check.proofs.Accepted.{file_facts};
-ghost use Rattle.file_model.specs.Index.{Counted, Indexed, Whole, blank_bytes, reward_or_none, rewards_in};
+ghost use Rattle.file_model.specs.Index.{Indexed, Whole, blank_bytes, starts_of, branch_there, reward_or_zero, all_rewards, whole};
 
-use file_check::check::check;
+use few::Few;
+use file_check::check::{branch_size, check};
 use file_check::faults::FileFault;
 use mdp::{MAX_CHOICES, MAX_COLUMNS, MAX_STATES, Model as DecisionModel, WholeBranch};
+use std::array;
 
-// The number of a state's choices, and where they stand.
-#[derive(Clone, Copy)]
-struct ChoiceIndex {
-    count: u8,
-    starts: [u16; MAX_CHOICES],
-}
+// Where the choices of a state stand.
+type Starts = Few<u16, MAX_CHOICES>;
 
-// The number in the two bytes at an offset.
+// The number in the two bytes at an offset. As in `file_check`: a public function could not require the bytes to be there.
 fn word_at(bytes: &[u8], at: usize) -> u16
     requires { at + 1 < length bytes.now }
     ensures { result ≡ word bytes.now at }
@@ -32,44 +32,29 @@ fn word_at(bytes: &[u8], at: usize) -> u16
     u16::from_le_bytes([bytes[at], bytes[at + 1]])
 }
 
-fn branch_size(columns: u8) -> usize
-    ensures { result ≡ branch_size columns }
-{
-    4 + 2 * columns as usize
-}
-
-fn index_choices(bytes: &[u8], columns: u8, end: usize, from: usize) -> ChoiceIndex
+fn index_choices(bytes: &[u8], columns: u8, from: usize, end: usize) -> Starts
     requires { (end ≤ length bytes.now) × (end < 2 ^ 16) }
-    ensures count { result.count ≡ length (starts_in bytes.now columns end from 8) }
-    ensures starts { take result.count result.starts ≡ starts_in bytes.now columns end from 8 }
+    ensures { listed result ≡ starts_in bytes.now columns end from 8 }
 {
-    let mut starts = [0; MAX_CHOICES];
+    let mut starts = Few::empty(0);
     let mut at = from;
-    for i in 0..8u8 {
-        if at >= end {
-            return ChoiceIndex { count: i, starts };
-        }
-        starts[i as usize] = at as u16;
-        at += 1 + bytes[at] as usize * branch_size(columns);
+    while at < end && starts.push(at as u16).is_ok() {
+        at += 1 + usize::from(bytes[at]) * branch_size(columns);
     }
-    ChoiceIndex { count: 8, starts }
+    starts
 }
 
 // Where the choices of all states stand.
-fn index_file(bytes: &[u8]) -> [ChoiceIndex; MAX_STATES]
+fn index_file(bytes: &[u8]) -> Few<Starts, MAX_STATES>
     requires { Whole bytes.now }
-    ensures counts { Counted bytes.now result }
-    ensures starts { Indexed bytes.now result }
+    ensures { Indexed bytes.now (listed result) }
 {
-    let columns = bytes[6];
-    let mut index = [ChoiceIndex {
-        count: 0,
-        starts: [0; MAX_CHOICES],
-    }; MAX_STATES];
-    for state in 0..word_at(bytes, 0) as usize {
-        let from = word_at(bytes, 8 + 4 * state) as usize;
-        let end = from + word_at(bytes, 8 + 4 * state + 2) as usize;
-        index[state] = index_choices(bytes, columns, end, from);
+    let mut index = Few::empty(Few::empty(0));
+    for state in 0..usize::from(word_at(bytes, 0)) {
+        let pair = 8 + 4 * state;
+        let from = usize::from(word_at(bytes, pair));
+        let end = from + usize::from(word_at(bytes, pair + 2));
+        let _ = index.push(index_choices(bytes, bytes[6], from, end));
     }
     index
 }
@@ -87,14 +72,12 @@ fn blank_file() -> &'static [u8]
 #[derive(Drop)]
 pub struct FileModel<'a> {
     bytes: &'a [u8],
-    index: [ChoiceIndex; MAX_STATES],
+    index: Few<Starts, MAX_STATES>,
     fault: Option<FileFault>,
     ghost long: { 8 ≤ length bytes.now },
-    ghost few: { word bytes.now 0 ≤ 512 },
     ghost sound: { accepted bytes.now ≡ true },
     ghost typed: { Bytes bytes.now },
-    ghost counted: { Counted bytes.now index },
-    ghost indexed: { Indexed bytes.now index },
+    ghost indexed: { Indexed bytes.now (listed index) },
 }
 
 impl<'a> FileModel<'a> {
@@ -125,67 +108,95 @@ impl<'a> FileModel<'a> {
         self.fault
     }
 
+    // Where the choices of a state stand.
+    fn starts(&self, state: usize) -> Option<&[u16]>
+        ensures { option_map (λ starts. starts.now) result ≡ slice_get (starts_of self.now.bytes.now) state }
+    {
+        self.index
+            .as_slice()
+            .get(state)
+            .map(|starts| starts.as_slice())
+    }
+
     // Where a choice stands.
     fn choice_at(&self, state: usize, choice: usize) -> Option<usize>
         ensures place { choice_of (decode self.now.bytes.now) state choice ≡ option_map (choice_in self.now.bytes.now (slice_index self.now.bytes.now 6)) result }
         ensures inside { IfSome result (λ a. choice_after self.now.bytes.now (slice_index self.now.bytes.now 6) a ≤ length self.now.bytes.now) }
     {
-        if state >= word_at(self.bytes, 0) as usize {
-            return None;
-        }
-        let index = self.index[state];
-        if choice >= index.count as usize {
-            return None;
-        }
-        Some(index.starts[choice] as usize)
+        self.starts(state)?.get(choice).map(|at| usize::from(*at))
     }
 
-    // The reward in a column of the branch at an offset, or 0 in a column that the model lacks.
-    fn reward_at(&self, at: usize, column: usize) -> i16
-        requires { at + branch_size (slice_index self.now.bytes.now 6) ≤ length self.now.bytes.now }
-        ensures { result ≡ (if nat_lt column (slice_index self.now.bytes.now 6) then reward_in self.now.bytes.now (at + 4 + column * 2) else pos 0) }
-    {
-        if column >= self.bytes[6] as usize {
-            return 0;
-        }
-        word_at(self.bytes, at + 4 + column * 2).cast_signed()
-    }
-
-    // The same in the first column, which every model has.
-    fn first_reward_at(&self, at: usize) -> i16
-        requires { at + branch_size (slice_index self.now.bytes.now 6) ≤ length self.now.bytes.now }
-        ensures { result ≡ reward_or_none self.now.bytes.now at 0 }
-    {
-        word_at(self.bytes, at + 4).cast_signed()
-    }
-
-    // The rewards of all columns of the branch at an offset; the usual two columns are tested for first.
-    fn rewards_at(&self, at: usize) -> [i16; MAX_COLUMNS]
-        requires { at + branch_size (slice_index self.now.bytes.now 6) ≤ length self.now.bytes.now }
-        ensures { result ≡ rewards_in self.now.bytes.now at }
-    {
-        let first = self.first_reward_at(at);
-        if self.bytes[6] == 2 {
-            return [first, self.reward_at(at, 1), 0, 0];
-        }
-        [
-            first,
-            self.reward_at(at, 1),
-            self.reward_at(at, 2),
-            self.reward_at(at, 3),
-        ]
-    }
-
-    // Where a branch stands.
-    fn branch_at(&self, state: usize, choice: usize, branch: usize) -> Option<usize>
-        ensures place { branch_of (decode self.now.bytes.now) state choice branch ≡ option_map (branch_in self.now.bytes.now (slice_index self.now.bytes.now 6)) result }
-        ensures inside { IfSome result (λ a. a + branch_size (slice_index self.now.bytes.now 6) ≤ length self.now.bytes.now) }
+    // A branch where it stands.
+    fn branch_at(&self, state: usize, choice: usize, branch: usize) -> Option<BranchAt<'a>>
+        ensures { branch_of (decode self.now.bytes.now) state choice branch ≡ option_map (λ b. branch_there b.bytes.now b.at) result }
     {
         let at = self.choice_at(state, choice)?;
-        if branch >= self.bytes[at] as usize {
+        if branch >= usize::from(self.bytes[at]) {
             return None;
         }
-        Some(at + 1 + branch * branch_size(self.bytes[6]))
+        let branch = BranchAt {
+            bytes: self.bytes,
+            at: at + 1 + branch * branch_size(self.bytes[6]),
+        };
+        Some(branch)
+    }
+}
+
+// A branch of a file, where it stands.
+#[derive(Drop)]
+struct BranchAt<'a> {
+    bytes: &'a [u8],
+    at: usize,
+    ghost long: { 8 ≤ length bytes.now },
+    ghost inside: { at + branch_size (slice_index bytes.now 6) ≤ length bytes.now },
+}
+
+impl BranchAt<'_> {
+    fn weight(&self) -> u16
+        ensures { result ≡ (branch_there self.now.bytes.now self.now.at).weight }
+    {
+        word_at(self.bytes, self.at)
+    }
+
+    fn next(&self) -> usize
+        ensures { result ≡ (branch_there self.now.bytes.now self.now.at).next }
+    {
+        usize::from(word_at(self.bytes, self.at + 2))
+    }
+
+    fn reward(&self, column: usize) -> Option<i16>
+        ensures { result ≡ slice_get (branch_there self.now.bytes.now self.now.at).rewards column }
+    {
+        if column >= usize::from(self.bytes[6]) {
+            return None;
+        }
+        Some(word_at(self.bytes, self.at + 4 + column * 2).cast_signed())
+    }
+
+    fn reward_or_zero(&self, column: usize) -> i16
+        ensures { result ≡ reward_or_zero (branch_there self.now.bytes.now self.now.at) column }
+    {
+        self.reward(column).unwrap_or(0)
+    }
+
+    // The rewards of all columns, 0 in a column that the model lacks; the usual two columns are tested for first.
+    fn rewards(&self) -> [i16; MAX_COLUMNS]
+        ensures { result ≡ all_rewards (branch_there self.now.bytes.now self.now.at) }
+    {
+        if self.bytes[6] == 2 {
+            return [self.reward_or_zero(0), self.reward_or_zero(1), 0, 0];
+        }
+        array::from_fn(|column| self.reward_or_zero(column))
+    }
+
+    fn whole(&self) -> WholeBranch
+        ensures { result ≡ whole (branch_there self.now.bytes.now self.now.at) }
+    {
+        WholeBranch {
+            weight: self.weight(),
+            next: self.next(),
+            rewards: self.rewards(),
+        }
     }
 }
 
@@ -195,11 +206,11 @@ impl DecisionModel for FileModel<'_> {
     ghost facts = { λ m. file_facts m.bytes.now m.sound m.typed };
 
     fn states(&self) -> usize {
-        word_at(self.bytes, 0) as usize
+        usize::from(word_at(self.bytes, 0))
     }
 
     fn first(&self) -> usize {
-        word_at(self.bytes, 2) as usize
+        usize::from(word_at(self.bytes, 2))
     }
 
     fn divisor(&self) -> u16 {
@@ -207,45 +218,34 @@ impl DecisionModel for FileModel<'_> {
     }
 
     fn columns(&self) -> usize {
-        self.bytes[6] as usize
+        usize::from(self.bytes[6])
     }
 
     fn choices(&self, state: usize) -> Option<usize> {
-        if state >= word_at(self.bytes, 0) as usize {
-            return None;
-        }
-        Some(self.index[state].count as usize)
+        self.starts(state).map(|starts| starts.len())
     }
 
     fn branches(&self, state: usize, choice: usize) -> Option<usize> {
-        let at = self.choice_at(state, choice)?;
-        Some(self.bytes[at] as usize)
+        self.choice_at(state, choice)
+            .map(|at| usize::from(self.bytes[at]))
     }
 
     fn weight(&self, state: usize, choice: usize, branch: usize) -> Option<u16> {
-        let at = self.branch_at(state, choice, branch)?;
-        Some(word_at(self.bytes, at))
+        self.branch_at(state, choice, branch)
+            .map(|branch| branch.weight())
     }
 
     fn next(&self, state: usize, choice: usize, branch: usize) -> Option<usize> {
-        let at = self.branch_at(state, choice, branch)?;
-        Some(word_at(self.bytes, at + 2) as usize)
+        self.branch_at(state, choice, branch)
+            .map(|branch| branch.next())
     }
 
     fn reward(&self, state: usize, choice: usize, branch: usize, column: usize) -> Option<i16> {
-        let at = self.branch_at(state, choice, branch)?;
-        if column >= self.bytes[6] as usize {
-            return None;
-        }
-        Some(self.reward_at(at, column))
+        self.branch_at(state, choice, branch)?.reward(column)
     }
 
     fn branch(&self, state: usize, choice: usize, branch: usize) -> Option<WholeBranch> {
-        let at = self.branch_at(state, choice, branch)?;
-        Some(WholeBranch {
-            weight: word_at(self.bytes, at),
-            next: word_at(self.bytes, at + 2) as usize,
-            rewards: self.rewards_at(at),
-        })
+        self.branch_at(state, choice, branch)
+            .map(|branch| branch.whole())
     }
 }

@@ -1,7 +1,7 @@
 use Rattle.std.proofs.Common.{sym, ap, ◌∙◌, arith}
 use Rattle.std.specs.Result.{result_err}
 use Rattle.file_check.proofs.Accepted.{ok_accepted, layout}
-use Rattle.file_model.proofs.Whole.{whole, blank_long, blank_few, blank_typed, blank_accepted, blank_table, refused_table, refused_all, taken_table}
+use Rattle.file_model.proofs.Whole.{whole, blank_long, blank_typed, blank_accepted, blank_table, refused_table, refused_all, taken_table}
 use Rattle.file_model.proofs.FileModel.read.Goals as goal
 
 pub index_file-requires : goal.index_file-requires
@@ -10,11 +10,9 @@ index_file-requires c = let e = c.blank_file-blank.ensures in whole c.blank_file
 pub invariant_of-result : goal.invariant_of-result
 invariant_of-result c = let e = c.blank_file-blank.ensures in record {
   long = blank_long e;
-  few = blank_few e;
   sound = blank_accepted e;
   typed = blank_typed e;
-  counted = c.index_file.ensures.counts;
-  indexed = c.index_file.ensures.starts;
+  indexed = c.index_file.ensures;
 }
 
 pub returns-in-Err : goal.returns-in-Err
@@ -36,11 +34,9 @@ invariant_of-result-2 c =
     let w = whole xs e (λ i. (c.type_inv.bytes i).fits) in
     record {
       long = omega (arith, w.room);
-      few = w.few;
       sound = e;
       typed = λ i. (c.type_inv.bytes i).fits;
-      counted = c.index_file-2.ensures.counts;
-      indexed = c.index_file-2.ensures.starts;
+      indexed = c.index_file-2.ensures;
     }
 
 pub returns : goal.returns
