@@ -10,9 +10,9 @@ use Rattle.plans.proofs.Limits.{Fair, all_or}
 use Rattle.sweep.specs.Steps.{plain, padded, Usual}
 use Rattle.sweep.proofs.Gains.{earned_is}
 
-pub usual_fair : (t : Table) (b : WholeBranch) → Usual (length t.states) b → length b.rewards ≤ 4 → Fair t (plain b)
-usual_fair t b h few = record {
-  next = h.next_in;
+pub usual_fair : (t : Table) (b : WholeBranch) {n : ℕ} → n ≡ length t.states → Usual n b → length b.rewards ≤ 4 → Fair t (plain b)
+usual_fair t b all h few = record {
+  next = omega (arith, h.next_in);
   few = few;
   rewards = λ i. all_or (λ r. nat_abs r ≤ 1000) b.rewards i (pos 0) zero-le h.rewards_small;
 }

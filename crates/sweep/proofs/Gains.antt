@@ -1,23 +1,55 @@
 -- The gains of the columns. Assumes nothing.
-use Rattle.std.proofs.Common.{◌≡◌, ℕ, zero, suc, ◌+◌, ◌<◌, ◌≤◌, Bool, true, false, cond, ◌&&◌, eqb, List, [], ◌∷◌, length, get_or, drop, ℤ, pos, ◌+ℤ◌, sym, refl, ap, ◌∙◌, arith}
+use Rattle.std.proofs.Common.{◌≡◌, ℕ, zero, suc, ◌+◌, ◌*◌, ◌^◌, ◌<◌, ◌≤◌, Bool, true, false, cond, ◌&&◌, eqb, List, [], ◌∷◌, map, length, get_or, sum, ℤ, pos, ◌+ℤ◌, All, sym, refl, ap, ◌∙◌, zero-le, zero-add, arith}
 use borrow.Author.Differences.{same_in, sum_is_lem, product_is}
-use Rattle.std.proofs.lemmas.List.{drop_more, drop_all, get_or_past}
+use Rattle.std.proofs.lemmas.List.{get_or_past}
+use Rattle.std.proofs.lemmas.List.Elements.{All-head, All-tail}
+use Rattle.std.proofs.lemmas.List.Sums.{sum_by-cons}
 use Rattle.std.proofs.lemmas.Int.{ints}
 use Rattle.std.proofs.lemmas.Bool.{ne_eqb, and_left, and_right}
 use Rattle.mdp.specs.Table.{Branch}
 use Rattle.plans.specs.declared.Objective.{Objective}
 use Rattle.plans.specs.Totals.{◌·◌, total}
 use Rattle.plans.specs.Plans.{no_objective, earns, earns_by}
-use Rattle.sweep.specs.Steps.{counts, column_gain, column_gains, earned}
+use Rattle.sweep.specs.Limits.{max_weight}
+use Rattle.sweep.specs.Gains.{counts, column_gain, column_gains}
+use Rattle.sweep.specs.Steps.{earned}
+use Rattle.sweep.specs.Swept.{Asked}
 
--- a turn of the loop, and its end
-module _ (ws : List ℕ) (os : List Objective) (step column i : ℕ) where
-  pub gain_more : i < length ws → i < length os → (v : Bool) → v ≡ (eqb (get_or os i no_objective).column column && counts (get_or os i no_objective) step) → column_gain (drop i ws) (drop i os) step column ≡ cond v (get_or ws i 0) 0 + column_gain (drop (i + 1) ws) (drop (i + 1) os) step column
-  gain_more p q v e =
-      ap (λ ws. column_gain ws (drop i os) step column) (drop_more ws i 0 p) ∙ ap (λ os. column_gain (get_or ws i 0 ∷ drop (i + 1) ws) os step column) (drop_more os i no_objective q) ∙ ap (λ v. cond v (get_or ws i 0) 0 + column_gain (drop (i + 1) ws) (drop (i + 1) os) step column) (sym e)
+-- the same sum, objective by objective
+gain : List ℕ → List Objective → ℕ → ℕ → ℕ
+gain [] os step column = 0
+gain (w ∷ ws) [] step column = 0
+gain (w ∷ ws) (o ∷ os) step column = cond (eqb o.column column && counts o step) w 0 + gain ws os step column
 
-  pub gain_end : length ws ≤ i → column_gain (drop i ws) (drop i os) step column ≡ 0
-  gain_end p = ap (λ ws. column_gain ws (drop i os) step column) (drop_all i ws p)
+sum_if : (v : Bool) (w : ℕ) (ns : List ℕ) → sum (cond v (w ∷ ns) ns) ≡ cond v w 0 + sum ns
+sum_if true w ns = sum_by-cons (λ n. n) w ns
+sum_if false w ns = sym (zero-add (sum ns))
+
+map_if : {X Y : Type 0} (f : X → Y) (v : Bool) (x : X) (xs : List X) → map f (cond v (x ∷ xs) xs) ≡ cond v (f x ∷ map f xs) (map f xs)
+map_if f true x xs = refl
+map_if f false x xs = refl
+
+gain_is : (ws : List ℕ) (os : List Objective) (step column : ℕ) → column_gain ws os step column ≡ gain ws os step column
+unfolding gain
+gain_is [] [] step column = refl
+gain_is [] (o ∷ os) step column = refl
+gain_is (w ∷ ws) [] step column = refl
+gain_is (w ∷ ws) (o ∷ os) step column =
+    let v = eqb o.column column && counts o step in
+    ap sum (map_if (λ (p : Objective × ℕ). p.1) v (o, w) _) ∙ sum_if v w _ ∙ ap (λ n. cond v w 0 + n) (gain_is ws os step column)
+
+gain_within : (m : ℕ) (ws : List ℕ) (os : List Objective) (step column : ℕ) → All (λ w. w ≤ m) ws → gain ws os step column ≤ length ws * m
+unfolding gain
+gain_within m [] os step column light = zero-le
+gain_within m (w ∷ ws) [] step column light = zero-le
+gain_within m (w ∷ ws) (o ∷ os) step column light =
+    let first : w ≤ m = All-head (λ w. w ≤ m) w ws light in
+    let rest = gain_within m ws os step column (All-tail (λ w. w ≤ m) w ws light) in
+    let some : cond (eqb o.column column && counts o step) w 0 ≤ m = elim (eqb o.column column && counts o step) as (λ v. cond v w 0 ≤ m) [ true ↦ first | false ↦ zero-le ] in
+    omega arith
+
+pub gain_small : (ws : List ℕ) (os : List Objective) (step column : ℕ) → Asked os ws → column_gain ws os step column < 2 ^ 16
+gain_small ws os step column asked = omega (arith, gain_is ws os step column, gain_within max_weight ws os step column asked.light, asked.few, asked.same)
 
 -- ---- the gains times the rewards are what the objectives earn
 scale_sum : (a b : ℕ) (z : ℤ) → (a + b) · z ≡ a · z +ℤ b · z
@@ -66,18 +98,20 @@ module _ (step : ℕ) (b : Branch) (few : length b.rewards ≤ 4) where
   r : ℕ → ℤ
   r column = get_or b.rewards column (pos 0)
 
-  gains_earn : (ws : List ℕ) (os : List Objective) → four (λ k. column_gain ws os step k · r k) ≡ earns_by ws os step b
-  unfolding r four
+  gains_earn : (ws : List ℕ) (os : List Objective) → four (λ k. gain ws os step k · r k) ≡ earns_by ws os step b
+  unfolding r four gain
   gains_earn [] os = let e = no_weights (λ o. earns o step b) os in omega (arith, ints)
   gains_earn (w ∷ ws) [] = omega (arith, ints)
   gains_earn (w ∷ ws) (o ∷ os) =
       let v : Bool = counts o step in
       let here : ℕ → ℤ = λ k. cond (eqb o.column k && v) w 0 · r k in
-      let left : ℕ → ℤ = λ k. column_gain ws os step k · r k in
+      let left : ℕ → ℤ = λ k. gain ws os step k · r k in
       let first : four here ≡ w · earns o step b = one_gain w r o.column v (λ l. get_or_past b.rewards o.column (pos 0) (omega arith)) in
-      let split = four_sum (λ k. column_gain (w ∷ ws) (o ∷ os) step k · r k) here left (λ k. scale_sum (cond (eqb o.column k && v) w 0) (column_gain ws os step k) (r k)) in
+      let split = four_sum (λ k. gain (w ∷ ws) (o ∷ os) step k · r k) here left (λ k. scale_sum (cond (eqb o.column k && v) w 0) (gain ws os step k) (r k)) in
       split ∙ ap (λ a. a +ℤ four left) first ∙ ap (λ a. w · earns o step b +ℤ a) (gains_earn ws os)
 
   pub earned_is : (ws : List ℕ) (os : List Objective) → earned (column_gains ws os step) b.rewards ≡ earns_by ws os step b
   unfolding r four
-  earned_is ws os = gains_earn ws os
+  earned_is ws os =
+      let e : (k : ℕ) → column_gain ws os step k · r k ≡ gain ws os step k · r k = λ k. ap (λ n. n · r k) (gain_is ws os step k) in
+      cc (e 0, e 1, e 2, e 3) ∙ gains_earn ws os

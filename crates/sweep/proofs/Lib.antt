@@ -7,5 +7,4 @@ pub mod Worths
 pub mod Parts
 pub mod Best
 pub mod Halves
-pub mod Tested
 pub mod Turns

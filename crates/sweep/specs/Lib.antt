@@ -1,3 +1,5 @@
 pub mod Limits
+pub mod Gains
 pub mod Steps
+pub mod Made
 pub mod Swept

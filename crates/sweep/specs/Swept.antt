@@ -1,6 +1,6 @@
 -- What a sweep asks, makes of the rows and answers. Assumes nothing.
-use Rattle.std.specs.Prelude.{◌≡◌, ℕ, ◌-◌, ◌*◌, ◌≤◌, Bool, true, cond, ◌&&◌, List, [], ◌∷◌, ◌++◌, map, length, take, drop, Some, None, All, Option, ◌==◌, nat_le, slice_index_or}
-use Rattle.std.specs.List.{range_with_len}
+use Rattle.std.specs.Prelude.{◌≡◌, ℕ, ◌-◌, ◌*◌, ◌≤◌, Bool, cond, ◌&&◌, List, [], ◌∷◌, ◌++◌, map, length, take, drop, Some, None, All, Option, ◌==◌, nat_le, slice_index_or}
+use Rattle.std.specs.List.{list_all, range_with_len}
 use Rattle.mdp.specs.Table.{Table}
 use Rattle.plans.specs.declared.Objective.{Objective}
 use Rattle.plans.specs.declared.Row.{Row}
@@ -17,15 +17,11 @@ pub record Asked (os : List Objective) (ws : List ℕ) : Type 0 where
   pub near : All (λ o. o.bound ≤ max_bound) os
 
 -- the same, as a test
-abbrev pub all_pass : {X : Type 0} → (X → Bool) → List X → Bool
-all_pass test [] = true
-all_pass test (x ∷ xs) = test x && all_pass test xs
-
 abbrev pub all_light : List ℕ → Bool
-all_light ws = all_pass (λ w. nat_le w max_weight) ws
+all_light ws = list_all (λ w. nat_le w max_weight) ws
 
 abbrev pub all_near : List Objective → Bool
-all_near os = all_pass (λ o. nat_le o.bound max_bound) os
+all_near os = list_all (λ o. nat_le o.bound max_bound) os
 
 abbrev pub asked : List Objective → List ℕ → Bool
 asked os ws = nat_le (length os) max_objectives && (length ws == length os && (all_light ws && all_near os))
