@@ -88,16 +88,16 @@ impl<M: Model> Docket<M> {
         matches!(self.verdict, Verdict::Open)
     }
 
-    // Mixes the first pair of rows that brings every target, if there is one and the docket is open.
-    fn mix_pair(&mut self)
-        ensures after { view self.new ≡ fold mixed (view self.old) (settle_mixes (view self.old)) }
-        ensures model { self.new.model ≡ self.old.model }
+    // The verdict once the first pair of rows that brings every target is mixed, if there is one and the docket is open.
+    fn judge_pairs(&self) -> Verdict
+        ensures { record (view self.now) { verdict = verdict_of result } ≡ fold mixed (view self.now) (settle_mixes (view self.now)) }
     {
         if !self.is_open() {
-            return;
+            return self.verdict;
         }
-        if let Some(shares) = self.table.find_pair(&self.objectives) {
-            self.verdict = Verdict::Achieved { shares };
+        match self.table.find_pair(&self.objectives) {
+            Some(shares) => Verdict::Achieved { shares },
+            None => Verdict::Open,
         }
     }
 
@@ -122,7 +122,7 @@ impl<M: Model> Docket<M> {
     {
         self.check_settle(rows.len())?;
         Settling { docket: self, rows }.price_anew();
-        self.mix_pair();
+        self.verdict = self.judge_pairs();
         Ok(self.verdict)
     }
 }

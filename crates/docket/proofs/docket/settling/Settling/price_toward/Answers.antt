@@ -1,4 +1,4 @@
-use Rattle.std.proofs.Common.{◌≡◌, List, length, get_or, pos, sym, ap, ◌∙◌, arith, w64, rules}
+use Rattle.std.proofs.Common.{List, length, get_or, pos, sym, ap, ◌∙◌, arith, w64, rules}
 use lib.Signed.{le_z}
 use Rattle.std.proofs.lemmas.Int.{to_z-of_z}
 use Rattle.plans.specs.declared.Objective.{Objective}
@@ -6,7 +6,7 @@ use Rattle.plans.specs.Plans.{no_objective}
 use Rattle.truth.specs.Dockets.{priced, toward}
 use Rattle.truth.specs.Calls.{price, refusal}
 use Rattle.verdict.proofs.Refused.{taken_value}
-use Rattle.verdict.specs.Answers.{told_docket}
+use Rattle.verdict.specs.Answers.{told_docket, answered}
 use Rattle.docket.specs.declared.docket.pricing.Price.{Price}
 use Rattle.docket.specs.Pricing.{price_of}
 use Rattle.docket.specs.Stages.{stage}
@@ -28,8 +28,8 @@ returns g c =
     let t = (stage s).table in
     let d = (stage s).docket in
     let ws = toward c.args.first in
-    let price_is : c.unwrap-price.result ≡ price_of t d ws =
-    taken_value (refusal t d (price ws (length s.rows.now))) c.unwrap-price.result (price_of t d ws) (sym (ap told_docket c.unwrap-price.ensures) ∙ p.answer) in
+    let o = refusal t d (price ws (length s.rows.now)) in
+    let price_is = taken_value o c.unwrap-price.result (price_of t d ws) (◌∙◌ {c = answered o (price_of t d ws)} (sym (ap told_docket c.unwrap-price.ensures)) p.answer) in
     let want = to_z-of_z w64 (get_or c.objectives.result.now 0 no_objective).target (search rules) ∙ ap (λ (xs : List Objective). (get_or xs 0 no_objective).target) c.objectives.ensures in
     let got = to_z-of_z w64 (get_or c.unwrap-price.result.point 0 (pos 0)) (search rules) ∙ ap (λ (q : Price). get_or q.point 0 (pos 0)) price_is in
     record {
