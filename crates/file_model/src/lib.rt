@@ -13,7 +13,7 @@ ghost use Rattle.file_check.specs.Places.{starts_in};
 ghost use Rattle.file_check.specs.Decode.{choice_in, decode};
 ghost use Rattle.file_check.specs.Accepts.{accepted, Bytes, FileOf, read_table};
 ghost use Rattle.file_check.proofs.Accepted.{file_facts};
-ghost use Rattle.file_model.specs.Index.{Indexed, Whole, blank_bytes, starts_of, branch_there, reward_or_zero, all_rewards, whole};
+ghost use Rattle.file_model.specs.Index.{Indexed, Whole, blank_bytes, starts_of, branch_there, all_rewards, whole};
 
 use few::Few;
 use file_check::check::{branch_size, check};
@@ -44,7 +44,7 @@ fn index_choices(bytes: &[u8], columns: u8, from: usize, end: usize) -> Starts
     starts
 }
 
-// Where the choices of all states stand.
+// Where the choices of all states stand; there is room for every state.
 fn index_file(bytes: &[u8]) -> Few<Starts, MAX_STATES>
     requires { Whole bytes.now }
     ensures { Indexed bytes.now (listed result) }
@@ -86,18 +86,20 @@ impl<'a> FileModel<'a> {
         ensures fault { result.fault ≡ result_err (check_result bytes.now) }
         ensures encoded { (t : Table) → FileOf bytes.now t → decode result.bytes.now ≡ t }
     {
-        if let Err(fault) = check(bytes) {
-            let blank = blank_file();
-            return FileModel {
-                bytes: blank,
-                index: index_file(blank),
-                fault: Some(fault),
-            };
+        match check(bytes) {
+            Ok(()) => FileModel::of_accepted(bytes, None),
+            Err(fault) => FileModel::of_accepted(blank_file(), Some(fault)),
         }
+    }
+
+    fn of_accepted(bytes: &'a [u8], fault: Option<FileFault>) -> FileModel<'a>
+        requires { accepted bytes.now ≡ true }
+        ensures { (result.bytes.now ≡ bytes.now) × (result.fault ≡ fault) }
+    {
         FileModel {
             bytes,
             index: index_file(bytes),
-            fault: None,
+            fault,
         }
     }
 
@@ -173,20 +175,11 @@ impl BranchAt<'_> {
         Some(word_at(self.bytes, self.at + 4 + column * 2).cast_signed())
     }
 
-    fn reward_or_zero(&self, column: usize) -> i16
-        ensures { result ≡ reward_or_zero (branch_there self.now.bytes.now self.now.at) column }
-    {
-        self.reward(column).unwrap_or(0)
-    }
-
-    // The rewards of all columns, 0 in a column that the model lacks; the usual two columns are tested for first.
+    // The rewards of all columns, 0 in a column that the model lacks.
     fn rewards(&self) -> [i16; MAX_COLUMNS]
         ensures { result ≡ all_rewards (branch_there self.now.bytes.now self.now.at) }
     {
-        if self.bytes[6] == 2 {
-            return [self.reward_or_zero(0), self.reward_or_zero(1), 0, 0];
-        }
-        array::from_fn(|column| self.reward_or_zero(column))
+        array::from_fn(|column| self.reward(column).unwrap_or(0))
     }
 
     fn whole(&self) -> WholeBranch
