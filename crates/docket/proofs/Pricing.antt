@@ -1,6 +1,7 @@
 -- A pricing that is taken. Assumes nothing.
 use Rattle.std.proofs.Common.{◌≡◌, ℕ, ◌*◌, ◌≤◌, Bool, true, false, cond, not, ◌&&◌, eqb, ltb, leb, List, [], ◌∷◌, ◌++◌, length, ℤ, Some, None, Ok, All, sum, Option, sym, refl, ap, ◌∙◌, inl, inr, arith}
 use lib.Signed.{lt_z}
+use Rattle.std.specs.List.{list_all}
 use Rattle.std.proofs.lemmas.List.Elements.{All-from_get_or}
 use Rattle.std.proofs.lemmas.List.Sums.{prefix_len-le-length}
 use Rattle.std.proofs.lemmas.Bool.{le-leb, eq-eqb, and_from}
@@ -12,7 +13,7 @@ use Rattle.plans.specs.declared.Row.{Row}
 use Rattle.plans.specs.Blends.{mean_up, mean_down}
 use Rattle.plans.specs.Plans.{no_objective, target_sum}
 use Rattle.sweep.specs.Swept as sweep
-use Rattle.sweep.specs.Swept.{all_pass, all_light, all_near, asked, answer}
+use Rattle.sweep.specs.Swept.{all_light, all_near, asked, answer}
 use Rattle.truth.specs.Dockets.{Verdict, Docket, Priced, Refuted, judged, same, number, has_row, swept, ceiling, point, priced}
 use Rattle.truth.specs.Calls.{Cause, Fault, price, cause, first_of, refusal, small_weights}
 use Rattle.truth.proofs.Taken.{taken_exactly, decides_has_row}
@@ -26,9 +27,9 @@ use Rattle.docket.specs.declared.docket.pricing.Price.{Price}
 use Rattle.docket.specs.Pricing.{priced_rows, price_of, lent_refusal}
 use Rattle.docket.specs.Views.{view}
 
-all_passes : {X : Type 0} (p : X → Bool) (P : X → Type 0) → ((x : X) → P x → p x ≡ true) → (xs : List X) → All P xs → all_pass p xs ≡ true
+all_passes : {X : Type 0} (p : X → Bool) (P : X → Type 0) → ((x : X) → P x → p x ≡ true) → (xs : List X) → All P xs → list_all p xs ≡ true
 all_passes p P each [] h = refl
-all_passes p P each (x ∷ xs) h = and_from (p x) (all_pass p xs) (each x (All-head P x xs h)) (all_passes p P each xs (All-tail P x xs h))
+all_passes p P each (x ∷ xs) h = and_from (p x) (list_all p xs) (each x (All-head P x xs h)) (all_passes p P each xs (All-tail P x xs h))
 
 -- its weights, the rows lent and the room are tested in turn
 abbrev or_else : {X : Type 0} → Option X → Option X → Option X
