@@ -1,3 +1,5 @@
+pub mod Reached
 pub mod Pricing
+pub mod Mixing
 pub mod Settling
 pub mod Pairs

@@ -1,3 +1,4 @@
+pub mod Reached
 pub mod Views
 pub mod Pricing
 pub mod Settling
