@@ -17,6 +17,15 @@ pub trait Cause {
 
     fn number(&self) -> u8
         ensures { result ≡ numbered self.now };
+
+    // The fault with this cause at a place.
+    final fn at(self, place: usize) -> Fault<Self>
+    where
+        Self: Sized,
+        ensures { result ≡ record { cause = self; place = place } }
+    {
+        Fault { cause: self, place }
+    }
 }
 
 // A cause, and the place where it was found.
