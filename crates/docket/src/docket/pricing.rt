@@ -3,7 +3,7 @@ ghost use Rattle.std.specs.Prelude.{◌≡◌, length, None};
 ghost use Rattle.truth.specs.Dockets.{swept, priced, number};
 ghost use Rattle.truth.specs.Calls.{price, refusal, after, if_taken};
 ghost use Rattle.verdict.specs.Answers.{told_docket, answered};
-ghost use Rattle.verdict.specs.Views.{listed};
+ghost use Rattle.few.specs.Views.{listed};
 ghost use Rattle.docket.specs.Views.{view};
 ghost use Rattle.docket.specs.Pricing.{priced_rows, price_of, lent_refusal};
 

@@ -97,9 +97,8 @@ impl<M: Model> Docket<M> {
         ensures model { self.new.model ≡ self.old.model }
     {
         if self.is_open() {
-            if let Some(shares) = self.table.find_pair(&self.objectives) {
-                self.verdict = self.verdict.after(Event::Mixed { shares, met: true });
-            }
+            let found = self.table.find_pair(&self.objectives);
+            self.verdict = self.verdict.after(Event::Mixed(found));
         }
     }
 

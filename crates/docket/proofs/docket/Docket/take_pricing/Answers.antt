@@ -1,7 +1,7 @@
 use Rattle.std.proofs.Common.{◌≡◌, length, refl, ap, ◌∙◌, w64, rules}
 use Rattle.std.proofs.lemmas.Int.{to_z-of_z}
 use Rattle.truth.specs.Dockets.{swept}
-use Rattle.verdict.specs.Views.{listed}
+use Rattle.few.specs.Views.{listed}
 use Rattle.holdings.specs.Views.{held}
 use Rattle.docket.specs.Pricing.{priced_rows}
 use Rattle.docket.specs.Views.{view}
