@@ -22,7 +22,7 @@ use Rattle.verdict.specs.Answers.{answered}
 use Rattle.verdict.proofs.Refused.{taken_none, taken_value}
 use Rattle.holdings.specs.Refusals.{weights_refusal, room_refusal}
 use Rattle.holdings.specs.Views.{held}
-use Rattle.holdings.proofs.Held.{length_held}
+use Rattle.holdings.proofs.Held.{held_within}
 use Rattle.docket.specs.declared.docket.Docket as code
 use Rattle.docket.specs.declared.docket.pricing.Price.{Price}
 use Rattle.docket.specs.Pricing.{priced_rows, price_of, lent_refusal}
@@ -73,7 +73,7 @@ module _ {M : Type 0} {m : Ghosts M} (t : Table) (d : code.Docket M m) (ws : Lis
   askable =
       let xs = held d.objectives in
       let (weighs, rich, room) = ((taken_exactly t (view d)).price_if ws (length old)).0 taken in
-      let few : length xs ≤ 4 = omega (arith, length_held d.objectives, d.objectives.within) in
+      let few : length xs ≤ 4 = held_within d.objectives in
       let light = all_passes (λ w. leb w 1000) (λ w. w ≤ 1000) (λ w. le-leb w 1000) ws weighs.small in
       let near = all_passes (λ o. leb o.bound 256) (λ o. o.bound ≤ 256) (λ o. le-leb o.bound 256) xs (All-from_get_or (λ o. o.bound ≤ 256) xs no_objective (λ k l. (d.objectives.small k l).1)) in
       and_from (asked xs ws) (leb (2 * length t.states) (length old))

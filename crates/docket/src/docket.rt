@@ -53,8 +53,8 @@ impl<M: Model> Docket<M> {
         ensures model { self.new.model ≡ self.old.model }
     {
         let met = self.table.judge(&self.objectives, shares)?;
-        let shares = Shares::of(shares);
-        self.verdict = self.verdict.after(Event::Mixed { shares, met });
+        let enough = met.then_some(Shares::of(shares));
+        self.verdict = self.verdict.after(Event::Mixed(enough));
         Ok(met)
     }
 

@@ -1,8 +1,15 @@
 -- Mixtures of two rows. Assumes nothing.
-use Rattle.std.proofs.Common.{◌≡◌, ℕ, zero, suc, ◌+◌, ◌-◌, ◌<◌, ◌≤◌, Bool, true, false, cond, eqb, List, [], ◌∷◌, ◌++◌, map, length, get_or, take, set, replicate, ℤ, pos, ◌+ℤ◌, Some, None, sum, Option, sym, refl, ap, ◌∙◌, inl, inr, arith, length-take}
+use Rattle.std.proofs.Common.{◌≡◌, ℕ, zero, suc, ◌+◌, ◌-◌, ◌<◌, ◌≤◌, Bool, true, false, cond, eqb, List, [], ◌∷◌, ◌++◌, map, length, get_or, take, set, replicate, ℤ, pos, ◌+ℤ◌, Some, None, sum, Option, sym, refl, ap, ◌∙◌, subst, inl, inr, arith, add-one, length-take}
 use borrow.Author.Differences.{same_in, same_out, sum_is_lem}
 use lib.IntN.{zero-*ℤ}
-use Rattle.std.specs.List.{range_with_len}
+use denote.Param.Members.{Mut, Called}
+use Rattle.std.specs.List.{find, range_with_len}
+use Rattle.std.specs.Bool.{IsTrue}
+use Rattle.std.specs.Option.{MatchOption, IfSome, IsSomeAnd, option_map}
+use Rattle.std.specs.declared.ops.Range.{Range}
+use Rattle.std.specs.Iterator.Runs.{Run, SomeRun, AllItemsGive, IsFirstToGive, CallKeepsClosure}
+use Rattle.std.proofs.iter.Yields.{nat_range_steps}
+use Rattle.std.proofs.iter.runs.Sources.{range_runs}
 use Rattle.std.proofs.lemmas.List.{take_all, length-set, length-replicate, length-take-le, get_or_past, get_or-take, get_or-set_same, get_or-set_other, get_or-replicate}
 use Rattle.std.proofs.lemmas.Bool.{cases_lt}
 use Rattle.std.proofs.lemmas.Bool.Decides.{nat_tests}
@@ -10,7 +17,7 @@ use Rattle.std.proofs.lemmas.List.FromFn.{fill_by_all, length-map-range_with_len
 use Rattle.plans.specs.Totals.{◌·◌, total}
 use Rattle.truth.specs.Dockets.{Priced, no_priced, part_sum, gathered, paired, pairings}
 use Rattle.truth.proofs.Pairs.{pair_whole}
-use Rattle.holdings.specs.Pairs.{first_by, shares_from, partner_shares}
+use Rattle.holdings.specs.Pairs.{shares_from, partner_shares}
 
 -- an array of 0s in which two places are set
 pub pair_is : (m n r s a : ℕ) → r < s → s < n → n ≤ m → take m (take (n - 0) (set (set (replicate m 0) s (1000 - a)) r a)) ≡ paired n r s a
@@ -81,18 +88,22 @@ module _ (n r s a : ℕ) (rising : r < s) (inside : s < n) where
       ∙ ap (λ k. k · x +ℤ get_or (paired n r s a) s 0 · y) p
       ∙ ap (λ k. a · x +ℤ k · y) q
 
-pub pairings_are : (n : ℕ) → pairings n ≡ gathered (partner_shares n) (range_with_len 0 n)
+pub partner_shares_are : (n r : ℕ) → gathered (λ s. shares_from n r s 0) (range_with_len (r + 1) (n - (r + 1))) ≡ partner_shares n r
+unfolding partner_shares
+partner_shares_are n r = ap (λ k. gathered (λ s. shares_from n r s 0) (range_with_len k (n - k))) (add-one r)
+
+pub pairings_are : (n m : ℕ) → m ≡ n → gathered (partner_shares n) (range_with_len 0 (n - 0)) ≡ pairings m
 unfolding pairings partner_shares shares_from
-pairings_are n = refl
+pairings_are n m e = let z : n - 0 ≡ n = omega arith in ap (λ k. gathered (partner_shares n) (range_with_len 0 k)) z ∙ ap pairings (sym e)
 
 -- the first that passes
 abbrev or_else : {X : Type 0} → Option X → Option X → Option X
 or_else None y = y
 or_else (Some x) y = Some x
 
-first_append : {X : Type 0} (p : X → Bool) (xs ys : List X) → first_by p (xs ++ ys) ≡ or_else (first_by p xs) (first_by p ys)
+first_append : {X : Type 0} (p : X → Bool) (xs ys : List X) → find p (xs ++ ys) ≡ or_else (find p xs) (find p ys)
 first_append p [] ys = refl
-first_append p (x ∷ xs) ys = elim (p x) as (λ b. cond b (Some x) (first_by p (xs ++ ys)) ≡ or_else (cond b (Some x) (first_by p xs)) (first_by p ys)) [ true ↦ refl | false ↦ first_append p xs ys ]
+first_append p (x ∷ xs) ys = elim (p x) as (λ b. cond b (Some x) (find p (xs ++ ys)) ≡ or_else (cond b (Some x) (find p xs)) (find p ys)) [ true ↦ refl | false ↦ first_append p xs ys ]
 
 -- numbers from a up to m
 counting_more : (a m : ℕ) → a < m → range_with_len a (m - a) ≡ a ∷ range_with_len (a + 1) (m - (a + 1))
@@ -101,25 +112,69 @@ counting_more a m h = let e : m - a ≡ suc (m - (a + 1)) = omega arith in ap (r
 counting_none : (a m : ℕ) → m ≤ a → range_with_len a (m - a) ≡ []
 counting_none a m h = let e : m - a ≡ 0 = omega arith in ap (range_with_len a) e
 
-module _ {Y : Type 0} (p : Y → Bool) (f : ℕ → List Y) (a m : ℕ) where
-  pub gathered_first : (y : Y) → a < m → Some y ≡ first_by p (f a) → Some y ≡ first_by p (gathered f (range_with_len a (m - a)))
-  gathered_first y h e = sym (ap (λ xs. first_by p (gathered f xs)) (counting_more a m h) ∙ first_append p (f a) (gathered f (range_with_len (a + 1) (m - (a + 1)))) ∙ ap (λ o. or_else o (first_by p (gathered f (range_with_len (a + 1) (m - (a + 1)))))) (sym e))
+module _ {Y : Type 0} (p : Y → Bool) (f : ℕ → List Y) where
+  none_gathered : (n a : ℕ) → ((k : ℕ) → k < n → None ≡ find p (f (a + k))) → None ≡ find p (gathered f (range_with_len a n))
+  none_gathered zero a none = refl
+  none_gathered (suc n) a none =
+      let z : a + 0 ≡ a = omega arith in
+      let here : None ≡ find p (f a) = none 0 (omega arith) ∙ ap (λ k. find p (f k)) z in
+      none_gathered n (a + 1) (λ k l. let e : a + suc k ≡ a + 1 + k = omega arith in none (suc k) (omega arith) ∙ ap (λ j. find p (f j)) e)
+      ∙ ap (λ o. or_else o (find p (gathered f (range_with_len (a + 1) n)))) here
+      ∙ sym (first_append p (f a) (gathered f (range_with_len (a + 1) n)))
 
-  pub gathered_next : a < m → None ≡ first_by p (f a) → first_by p (gathered f (range_with_len a (m - a))) ≡ first_by p (gathered f (range_with_len (a + 1) (m - (a + 1))))
-  gathered_next h e = ap (λ xs. first_by p (gathered f xs)) (counting_more a m h) ∙ first_append p (f a) (gathered f (range_with_len (a + 1) (m - (a + 1)))) ∙ ap (λ o. or_else o (first_by p (gathered f (range_with_len (a + 1) (m - (a + 1)))))) (sym e)
+  first_gathered : (n a i : ℕ) (y : Y) → i < n → Some y ≡ find p (f (a + i)) → ((k : ℕ) → k < i → None ≡ find p (f (a + k))) →
+      Some y ≡ find p (gathered f (range_with_len a n))
+  first_gathered zero a i y l hit none = absurd (omega arith)
+  first_gathered (suc n) a zero y l hit none =
+      let z : a + 0 ≡ a = omega arith in
+      ap (λ o. or_else o (find p (gathered f (range_with_len (a + 1) n)))) (hit ∙ ap (λ k. find p (f k)) z)
+      ∙ sym (first_append p (f a) (gathered f (range_with_len (a + 1) n)))
+  first_gathered (suc n) a (suc i) y l hit none =
+      let z : a + 0 ≡ a = omega arith in
+      let here : None ≡ find p (f a) = none 0 (omega arith) ∙ ap (λ k. find p (f k)) z in
+      let next : a + suc i ≡ a + 1 + i = omega arith in
+      first_gathered n (a + 1) i y (omega arith) (hit ∙ ap (λ j. find p (f j)) next)
+      (λ k m. let e : a + suc k ≡ a + 1 + k = omega arith in none (suc k) (omega arith) ∙ ap (λ j. find p (f j)) e)
+      ∙ ap (λ o. or_else o (find p (gathered f (range_with_len (a + 1) n)))) here
+      ∙ sym (first_append p (f a) (gathered f (range_with_len (a + 1) n)))
 
-  pub gathered_none : m ≤ a → first_by p (gathered f (range_with_len a (m - a))) ≡ None
-  gathered_none h = ap (λ xs. first_by p (gathered f xs)) (counting_none a m h)
+  read : (o : Option ℕ) (x : ℕ) → option_map (λ y. y) o ≡ Some x → o ≡ Some x
+  read None x e = cc
+  read (Some y) x e = e
+
+  -- what `find_map` gives over numbers from a up to b, where each call gives the first of its list
+  module _ {F B : Type 0} (view : B → Y) {g : Mut F (ℕ × Unit {0}) (Option B)} {s : F} where
+    pub found_over : {a b : ℕ} (r : Option B) →
+        SomeRun nat_range_steps (record { start = a; end = b }) (λ q. MatchOption r (IsTrue q.whole × AllItemsGive q g s None) (λ y. (i : ℕ) × (i < q.len) × (q.len ≡ i + 1) × IsFirstToGive q g s (Some y) None i)) →
+        CallKeepsClosure g s → ((x : ℕ) (o : Option B) → Called g s (x, tt) o s → option_map view o ≡ find p (f x)) →
+        option_map view r ≡ find p (gathered f (range_with_len a (b - a)))
+    found_over {a = a} {b = b} None runs keeps gives =
+        let (q, start, m) = runs in
+        let up = range_runs q q.seen in
+        let e : q.len ≡ b - a = up.1 m.0 ∙ ap (λ (r : Range ℕ). r.end - r.start) start in
+        none_gathered (b - a) a (λ k l.
+        let at : q.at k ≡ Some (a + k) = read (q.at k) _ (up.3 k (omega arith)) ∙ ap (λ (r : Range ℕ). Some (r.start + k)) start in
+        gives (a + k) None (subst (λ o. IfSome o (λ x. Called g s (x, tt) None s)) at (m.1 keeps k)))
+    found_over {a = a} {b = b} (Some y) runs keeps gives =
+        let (q, start, m) = runs in
+        let up = range_runs q q.seen in
+        let (i, l, _, first) = m in
+        let h = first keeps in
+        let e : q.len ≤ b - a = subst (λ (r : Range ℕ). q.len ≤ r.end - r.start) start up.0 in
+        let at : (k : ℕ) → k < q.len → q.at k ≡ Some (a + k) = λ k below. read (q.at k) _ (up.3 k below) ∙ ap (λ (r : Range ℕ). Some (r.start + k)) start in
+        first_gathered (b - a) a i (view y) (omega arith)
+        (gives (a + i) (Some y) (subst (λ o. IsSomeAnd o (λ x. Called g s (x, tt) (Some y) s)) (at i l) h.0))
+        (λ k below. gives (a + k) None (subst (λ o. IsSomeAnd o (λ x. Called g s (x, tt) None s)) (at k (omega arith)) (h.1 k below)))
 
 module _ (p : List ℕ → Bool) (n r s a : ℕ) where
-  pub shares_first : a < 1001 → p (paired n r s a) ≡ true → first_by p (shares_from n r s a) ≡ Some (paired n r s a)
+  pub shares_first : a < 1001 → p (paired n r s a) ≡ true → find p (shares_from n r s a) ≡ Some (paired n r s a)
   unfolding shares_from
-  shares_first h e = ap (λ xs. first_by p (map (paired n r s) xs)) (counting_more a 1001 h) ∙ ap (λ b. cond b (Some (paired n r s a)) (first_by p (shares_from n r s (a + 1)))) e
+  shares_first h e = ap (λ xs. find p (map (paired n r s) xs)) (counting_more a 1001 h) ∙ ap (λ b. cond b (Some (paired n r s a)) (find p (shares_from n r s (a + 1)))) e
 
-  pub shares_next : a < 1001 → p (paired n r s a) ≡ false → first_by p (shares_from n r s a) ≡ first_by p (shares_from n r s (a + 1))
+  pub shares_next : a < 1001 → p (paired n r s a) ≡ false → find p (shares_from n r s a) ≡ find p (shares_from n r s (a + 1))
   unfolding shares_from
-  shares_next h e = ap (λ xs. first_by p (map (paired n r s) xs)) (counting_more a 1001 h) ∙ ap (λ b. cond b (Some (paired n r s a)) (first_by p (shares_from n r s (a + 1)))) e
+  shares_next h e = ap (λ xs. find p (map (paired n r s) xs)) (counting_more a 1001 h) ∙ ap (λ b. cond b (Some (paired n r s a)) (find p (shares_from n r s (a + 1)))) e
 
-  pub shares_none : 1001 ≤ a → first_by p (shares_from n r s a) ≡ None
+  pub shares_none : 1001 ≤ a → find p (shares_from n r s a) ≡ None
   unfolding shares_from
-  shares_none h = ap (λ xs. first_by p (map (paired n r s) xs)) (counting_none a 1001 h)
+  shares_none h = ap (λ xs. find p (map (paired n r s) xs)) (counting_none a 1001 h)

@@ -1,27 +1,36 @@
 -- The rows of a table, and a sum's next element. Assumes nothing.
-use Rattle.std.proofs.Common.{◌≡◌, ℕ, zero, suc, ◌+◌, ◌<◌, List, [], ◌∷◌, length, get_or, take, ℤ, pos, ◌+ℤ◌, ap, ◌∙◌, arith}
+use Rattle.std.proofs.Common.{◌≡◌, ℕ, zero, suc, ◌+◌, ◌<◌, ◌≤◌, List, [], ◌∷◌, map, length, get_or, take, ℤ, pos, ◌+ℤ◌, Bool, None, cond, not, refl, ap, ◌∙◌, arith}
 use borrow.Author.Differences.{same_in, same_out, sum_is_lem}
+use Rattle.std.specs.List.{position, position_or_len}
 use Rattle.std.proofs.lemmas.List.{get_or-map, get_or-take, length-map, length-take-le}
+use Rattle.std.proofs.lemmas.List.Sums.{prefix_len-le-length}
+use Rattle.std.proofs.lemmas.Bool.Decides.{nat_tests}
 use Rattle.plans.specs.Totals.{◌·◌, total}
-use Rattle.truth.specs.Dockets.{Priced, no_priced}
+use Rattle.truth.specs.Dockets.{Priced, no_priced, same, number}
+use Rattle.few.specs.Views.{listed}
+use Rattle.few.proofs.Lengths.{listed_within}
 use Rattle.holdings.specs.declared.table.TableRow.{TableRow}
 use Rattle.holdings.specs.declared.table.RowTable.{RowTable}
-use Rattle.holdings.specs.Views.{rows_in, row_of, table_of}
+use Rattle.holdings.specs.Views.{row_of, table_of}
+
+-- a part of row k, over any row that is read past the end
+pub part_of_row : (rs : List TableRow) (k i : ℕ) (r : TableRow) → k < length rs → get_or (get_or (map row_of rs) k no_priced).point i (pos 0) ≡ get_or (get_or rs k r).point i (pos 0)
+part_of_row rs k i r h = ap (λ (v : Priced). get_or v.point i (pos 0)) (get_or-map row_of rs k r no_priced h)
 
 module _ (t : RowTable) where
-  length_rows_in : length (rows_in t) ≡ t.used
-  length_rows_in = length-take-le t.used t.rows (omega (arith, t.whole, t.within))
+  pub length_table_of : length (table_of t) ≡ length (listed t.rows)
+  length_table_of = length-map (listed t.rows) row_of
 
-  pub length_table_of : length (table_of t) ≡ t.used
-  length_table_of = length-map (rows_in t) row_of ∙ length_rows_in
+  pub table_within : length (table_of t) ≤ 16
+  table_within = omega (arith, length_table_of, listed_within t.rows)
 
-  -- row k, over any row that is read past the end
-  pub getD_table_of : (k : ℕ) (r : TableRow) → k < t.used → get_or (table_of t) k no_priced ≡ row_of (get_or t.rows k r)
-  getD_table_of k r h =
-      get_or-map row_of (rows_in t) k r no_priced (omega (arith, length_rows_in)) ∙ ap row_of (get_or-take t.used t.rows k r h)
+-- the number of the row with some weights
+pub number_in : (ws : List ℕ) (rs : List TableRow) → number ws (map row_of rs) ≡ position_or_len (λ r. same (row_of r).weights ws) rs
+number_in ws [] = refl
+number_in ws (r ∷ rs) = ap (λ n. cond (not (same (row_of r).weights ws)) (1 + n) 0) (number_in ws rs)
 
-  pub part_of_row : (k i : ℕ) (r : TableRow) → k < t.used → get_or (get_or (table_of t) k no_priced).point i (pos 0) ≡ get_or (get_or t.rows k r).point i (pos 0)
-  part_of_row k i r h = ap (λ (v : Priced). get_or v.point i (pos 0)) (getD_table_of k r h)
+pub position_none : {X : Type 0} (p : X → Bool) (xs : List X) → None ≡ position p xs → position_or_len p xs ≡ length xs
+position_none p xs e = let h = prefix_len-le-length (λ x. not (p x)) xs in grind (arith, nat_tests)
 
 -- one element more of a sum
 pub total_more : {X : Type 0} (u : ℕ → X → ℕ) (f : ℕ → X → ℤ) (xs : List X) (k : ℕ) (d : X) → k < length xs →

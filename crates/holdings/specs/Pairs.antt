@@ -1,12 +1,7 @@
 -- Mixtures of two rows, in the order in which they are tried. Assumes nothing.
-use Rattle.std.specs.Prelude.{ℕ, suc, ◌-◌, Bool, cond, List, [], ◌∷◌, map, Some, None, Option}
+use Rattle.std.specs.Prelude.{ℕ, suc, ◌-◌, List, map}
 use Rattle.std.specs.List.{range_with_len}
 use Rattle.truth.specs.Dockets.{gathered, paired}
-
--- the first that passes
-abbrev pub first_by : {X : Type 0} → (X → Bool) → List X → Option X
-first_by p [] = None
-first_by p (x ∷ xs) = cond (p x) (Some x) (first_by p xs)
 
 -- of n rows: two by the share of the first from a on; one and each later one
 unfoldable pub shares_from : ℕ → ℕ → ℕ → ℕ → List (List ℕ)

@@ -15,20 +15,12 @@ pub(crate) fn total(numbers: &[u16]) -> usize
     requires few { length numbers.now ≤ 16 }
     ensures { result ≡ sum numbers.now }
 {
-    let mut total = 0;
-    for number in numbers {
-        total += *number as usize;
-    }
-    total
+    numbers.iter().map(|number| usize::from(*number)).sum()
 }
 
 // A number by its place, and 0 past the end.
 pub(crate) fn get_or_zero(numbers: &[u16], place: usize) -> u16
     ensures { result ≡ slice_index numbers.now place }
 {
-    if place < numbers.len() {
-        numbers[place]
-    } else {
-        0
-    }
+    numbers.get(place).copied().unwrap_or(0)
 }

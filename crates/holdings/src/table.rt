@@ -1,9 +1,9 @@
 // The table of a docket.
-ghost use Rattle.std.specs.Prelude.{◌≡◌, ◌≤◌, length};
-
+use few::Few;
 use verdict::limits::{MAX_OBJECTIVES, MAX_ROWS};
 use verdict::verdict::Weights;
 
+mod mixtures;
 mod pairs;
 mod rows;
 
@@ -17,8 +17,5 @@ pub struct TableRow {
 // Up to sixteen rows, in the order in which they were added.
 #[derive(Drop)]
 pub struct RowTable {
-    rows: [TableRow; MAX_ROWS],
-    used: usize,
-    ghost whole: { length rows ≡ 16 },
-    ghost within: { used ≤ 16 },
+    rows: Few<TableRow, MAX_ROWS>,
 }

@@ -1,5 +1,5 @@
 -- What an answer tells of the refusal. Assumes nothing.
-use Rattle.std.proofs.Common.{◌≡◌, ℕ, Some, None, Ok, Err, Option, Result, sym, refl, ap, ◌∙◌, arith}
+use Rattle.std.proofs.Common.{◌≡◌, Some, None, Ok, Err, Option, Result, sym, refl, ap, ◌∙◌}
 use Rattle.truth.specs.Calls.{Fault, if_taken}
 use Rattle.fault.specs.declared.Fault as fault
 use Rattle.verdict.specs.declared.faults.DocketCause.{DocketCause}
@@ -8,17 +8,17 @@ use Rattle.verdict.specs.Answers.{answered, told_docket}
 
 pub taken_none : {X : Type 0} (o : Option Fault) (x y : X) → Ok x ≡ answered o y → o ≡ None
 taken_none None x y e = refl
-taken_none (Some f) x y e = let z : ◌≡◌ {A = ℕ} 0 1 = cc in absurd (omega arith)
+taken_none (Some f) x y e = cc
 
 pub taken_value : {X : Type 0} (o : Option Fault) (x y : X) → Ok x ≡ answered o y → x ≡ y
 taken_value None x y e = cc
-taken_value (Some f) x y e = let z : ◌≡◌ {A = ℕ} 0 1 = cc in absurd (omega arith)
+taken_value (Some f) x y e = cc
 
 pub if_none : {X : Type 0} (o : Option Fault) (x y : X) → o ≡ None → if_taken o x y ≡ x
 if_none o x y e = ap (λ v. if_taken v x y) e
 
 pub taken_some : {X : Type 0} (o : Option Fault) (f : Fault) (y : X) → Err f ≡ answered o y → o ≡ Some f
-taken_some None f y e = let z : ◌≡◌ {A = ℕ} 0 1 = cc in absurd (omega arith)
+taken_some None f y e = cc
 taken_some (Some g) f y e = cc
 
 pub if_some : {X : Type 0} (o : Option Fault) (f : Fault) (x y : X) → o ≡ Some f → if_taken o x y ≡ y

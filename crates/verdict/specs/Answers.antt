@@ -4,9 +4,9 @@ use Rattle.fault.specs.declared.Fault.{Fault}
 use Rattle.truth.specs.Calls as calls
 use Rattle.verdict.specs.declared.faults.DraftCause.{DraftCause}
 use Rattle.verdict.specs.declared.faults.DocketCause.{DocketCause}
-use Rattle.verdict.specs.declared.few.Few.{Few}
+use Rattle.few.specs.declared.Few.{Few}
+use Rattle.few.specs.Views.{listed}
 use Rattle.verdict.specs.Numbers.{draft_number, docket_number}
-use Rattle.verdict.specs.Views.{listed}
 
 -- the value, unless there is a fault
 abbrev pub answered : {X : Type 0} → Option calls.Fault → X → Result X calls.Fault
@@ -24,5 +24,5 @@ told_draft r = told draft_number (λ x. x) r
 abbrev pub told_docket : {X : Type 0} → Result X (Fault DocketCause) → Result X calls.Fault
 told_docket r = told docket_number (λ x. x) r
 
-abbrev pub told_list : {n : ℕ} → Result (Few n) (Fault DocketCause) → Result (List ℕ) calls.Fault
+abbrev pub told_list : {n : ℕ} → Result (Few ℕ n) (Fault DocketCause) → Result (List ℕ) calls.Fault
 told_list r = told docket_number listed r

@@ -1,4 +1,3 @@
 pub mod Numbers
-pub mod Views
 pub mod Answers
 pub mod Verdicts

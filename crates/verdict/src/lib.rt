@@ -2,6 +2,5 @@
 #![tactic(auto)]
 
 pub mod faults;
-pub mod few;
 pub mod limits;
 pub mod verdict;

@@ -3,12 +3,12 @@ ghost use Rattle.std.specs.Prelude.{◌≡◌};
 ghost use Rattle.truth.specs.Dockets.{judged};
 ghost use Rattle.verdict.specs.Verdicts.{verdict_of, came_out, verdict_by};
 
-use crate::few::Few;
 use crate::limits::{MAX_OBJECTIVES, MAX_ROWS};
+use few::Few;
 
-pub type Weights = Few<MAX_OBJECTIVES>;
+pub type Weights = Few<u16, MAX_OBJECTIVES>;
 
-pub type Shares = Few<MAX_ROWS>;
+pub type Shares = Few<u16, MAX_ROWS>;
 
 // Achieved shows the shares of the rows whose plans together meet every target. Refuted shows weights, and the ceiling
 // of the weighted rewards, which is below the weighted sum of the targets.
@@ -33,10 +33,8 @@ pub enum Event {
         ceiling: i64,
         target_sum: i64,
     },
-    Mixed {
-        shares: Shares,
-        met: bool,
-    },
+    // the shares, if they bring every target
+    Mixed(Option<Shares>),
 }
 
 impl Verdict {
@@ -52,24 +50,12 @@ impl Verdict {
                     ceiling,
                     target_sum,
                 },
-            ) => {
-                if ceiling < target_sum {
-                    Verdict::Refuted {
-                        weights,
-                        ceiling,
-                        target_sum,
-                    }
-                } else {
-                    Verdict::Open
-                }
-            }
-            (Verdict::Open, Event::Mixed { shares, met }) => {
-                if met {
-                    Verdict::Achieved { shares }
-                } else {
-                    Verdict::Open
-                }
-            }
+            ) if ceiling < target_sum => Verdict::Refuted {
+                weights,
+                ceiling,
+                target_sum,
+            },
+            (Verdict::Open, Event::Mixed(Some(shares))) => Verdict::Achieved { shares },
             (verdict, _) => verdict,
         }
     }

@@ -13,7 +13,7 @@ use fault::Cause;
 use mdp::Model;
 use plans::Row;
 use verdict::faults::{DocketCause, DocketFault};
-use verdict::verdict::Verdict;
+use verdict::verdict::{Event, Verdict};
 
 // A docket of two objectives while it is settled, and working rows enough for its pricings.
 #[derive(Drop)]
@@ -95,10 +95,8 @@ impl<M: Model> Docket<M> {
         if !self.is_open() {
             return self.verdict;
         }
-        match self.table.find_pair(&self.objectives) {
-            Some(shares) => Verdict::Achieved { shares },
-            None => Verdict::Open,
-        }
+        let found = self.table.find_pair(&self.objectives);
+        self.verdict.after(Event::Mixed(found))
     }
 
     fn check_settle(&self, lent: usize) -> Result<(), DocketFault>

@@ -1,25 +1,32 @@
 // The objectives that are held.
-ghost use Rattle.std.specs.Prelude.{◌≡◌, [], ◌∷◌, ◌++◌, length, Err};
+ghost use Rattle.std.specs.Prelude.{◌≡◌, ◌≤◌, [], ◌∷◌, ◌++◌, length, not, nat_lt, position};
 ghost use Rattle.plans.specs.Plans.{target_sum};
 ghost use Rattle.truth.specs.Dockets.{each_by, aimed};
-ghost use Rattle.truth.specs.Calls.{small_target, small_targets, small_weights, allowed, draft_refusal, if_taken};
+ghost use Rattle.truth.specs.Calls.{small_target, allowed, draft_refusal, if_taken};
+ghost use Rattle.few.specs.Views.{listed};
 ghost use Rattle.verdict.specs.Answers.{told_draft, told_docket, told_list, answered};
-ghost use Rattle.verdict.specs.Views.{listed};
 ghost use Rattle.holdings.specs.Refusals.{targets_refusal, weights_refusal};
 ghost use Rattle.holdings.specs.Views.{held};
 
 use crate::objectives::Objectives;
 use crate::sums::{get_or_zero, scaled, total};
-use fault::Fault;
+use fault::Cause;
+use few::Few;
 use plans::Objective;
 use verdict::faults::{DocketCause, DocketFault, DraftCause, DraftFault};
 use verdict::limits::{MAX_BOUND, MAX_OBJECTIVES, MAX_TARGET, MAX_WEIGHT};
 use verdict::verdict::Weights;
 
+const BLANK: Objective = Objective {
+    column: 0,
+    bound: 0,
+    target: 0,
+};
+
 fn is_target(target: i64) -> bool
     ensures { result ≡ small_target target }
 {
-    -MAX_TARGET <= target && target <= MAX_TARGET
+    (-MAX_TARGET..=MAX_TARGET).contains(&target)
 }
 
 // Whether an objective is within the limits, over a model with some number of columns.
@@ -27,82 +34,66 @@ fn is_allowed(objective: Objective, columns: usize) -> bool
     ensures { result ≡ allowed columns objective }
 {
     objective.column < columns
-        && 1 <= objective.bound
-        && objective.bound <= MAX_BOUND
+        && (1..=MAX_BOUND).contains(&objective.bound)
         && is_target(objective.target)
 }
 
-// How many targets from the front on are within the limits.
-fn count_targets(targets: &[i64]) -> usize
-    ensures { result ≡ small_targets targets.now }
+// The number of the first target that is not within the limits.
+fn find_target(targets: &[i64]) -> Option<usize>
+    ensures { result ≡ position (λ t. not (small_target t)) targets.now }
 {
-    for i in 0..targets.len() {
-        if !is_target(targets[i]) {
-            return i;
-        }
-    }
-    targets.len()
+    targets.iter().position(|target| !is_target(*target))
+}
+
+// The number of the first weight that is not within the limit.
+fn find_weight(weights: &[u16]) -> Option<usize>
+    ensures { result ≡ position (λ w. nat_lt 1000 w) weights.now }
+{
+    weights.iter().position(|weight| *weight > MAX_WEIGHT)
 }
 
 fn check_targets(count: usize, targets: &[i64]) -> Result<(), DocketFault>
     ensures { told_docket result ≡ answered (targets_refusal count targets.now) tt }
 {
     if targets.len() != count {
-        return Err(Fault {
-            cause: DocketCause::Targets,
-            place: targets.len(),
-        });
+        return Err(DocketCause::Targets.at(targets.len()));
     }
-    let small = count_targets(targets);
-    if small < targets.len() {
-        return Err(Fault {
-            cause: DocketCause::Targets,
-            place: small,
-        });
+    match find_target(targets) {
+        Some(place) => Err(DocketCause::Targets.at(place)),
+        None => Ok(()),
     }
-    Ok(())
 }
 
-// How many weights from the front on are within the limit.
-fn count_weights(weights: &[u16]) -> usize
-    ensures { result ≡ small_weights weights.now }
+// Objectives with new targets, one for each.
+fn aim(objectives: &[Objective], targets: &[i64]) -> Few<Objective, MAX_OBJECTIVES>
+    requires few { length objectives.now ≤ 4 }
+    requires each { length targets.now ≡ length objectives.now }
+    ensures { listed result ≡ each_by (aimed targets.now) objectives.now }
 {
-    for i in 0..weights.len() {
-        if weights[i] > MAX_WEIGHT {
-            return i;
-        }
+    let mut each = Few::empty(BLANK);
+    for (objective, target) in objectives.iter().zip(targets) {
+        let aimed = Objective {
+            target: *target,
+            ..*objective
+        };
+        each.push(aimed).unwrap();
     }
-    weights.len()
-}
-
-fn weights_fault(place: usize) -> Result<Weights, DocketFault>
-    ensures { told_list result ≡ Err (record { number = 10; place = place }) }
-{
-    Err(Fault {
-        cause: DocketCause::Weights,
-        place,
-    })
+    each
 }
 
 impl Objectives {
     pub fn none() -> Objectives
         ensures { held result ≡ [] }
     {
-        let none = Objective {
-            column: 0,
-            bound: 0,
-            target: 0,
-        };
         Objectives {
-            each: [none; MAX_OBJECTIVES],
-            count: 0,
+            each: Few::empty(BLANK),
         }
     }
 
     pub fn as_slice(&self) -> &[Objective]
         ensures { result.now ≡ held self.now }
     {
-        &self.each[0..self.count]
+        self.each.as_slice()
     }
 
     // Takes one more objective, over a model with some number of columns, and answers its number.
@@ -110,21 +101,16 @@ impl Objectives {
         ensures answer { told_draft result ≡ answered (draft_refusal columns (held self.old) objective) (length (held self.old)) }
         ensures after { held self.new ≡ if_taken (draft_refusal columns (held self.old) objective) (held self.old ++ (objective ∷ [])) (held self.old) }
     {
-        let number = self.count;
+        let number = self.each.len();
         if number == MAX_OBJECTIVES {
-            return Err(Fault {
-                cause: DraftCause::Full,
-                place: MAX_OBJECTIVES,
-            });
+            return Err(DraftCause::Full.at(MAX_OBJECTIVES));
         }
         if !is_allowed(objective, columns) {
-            return Err(Fault {
-                cause: DraftCause::Objective,
-                place: number,
-            });
+            return Err(DraftCause::Objective.at(number));
         }
-        self.each[number] = objective;
-        self.count = number + 1;
+        let mut each = self.each;
+        each.push(objective).unwrap();
+        self.each = each;
         Ok(number)
     }
 
@@ -133,12 +119,8 @@ impl Objectives {
         ensures answer { told_docket result ≡ answered (targets_refusal (length (held self.old)) targets.now) tt }
         ensures after { held self.new ≡ if_taken (targets_refusal (length (held self.old)) targets.now) (each_by (aimed targets.now) (held self.old)) (held self.old) }
     {
-        check_targets(self.count, targets)?;
-        let mut each = self.each;
-        for i in 0..targets.len() {
-            each[i].target = targets[i];
-        }
-        self.each = each;
+        check_targets(self.each.len(), targets)?;
+        self.each = aim(self.as_slice(), targets);
         Ok(())
     }
 
@@ -146,15 +128,14 @@ impl Objectives {
     pub fn check_weights(&self, weights: &[u16]) -> Result<Weights, DocketFault>
         ensures { told_list result ≡ answered (weights_refusal (length (held self.now)) weights.now) weights.now }
     {
-        if weights.len() != self.count {
-            return weights_fault(weights.len());
+        if weights.len() != self.each.len() {
+            return Err(DocketCause::Weights.at(weights.len()));
         }
-        let small = count_weights(weights);
-        if small < weights.len() {
-            return weights_fault(small);
+        if let Some(place) = find_weight(weights) {
+            return Err(DocketCause::Weights.at(place));
         }
         if total(weights) == 0 {
-            return weights_fault(0);
+            return Err(DocketCause::Weights.at(0));
         }
         Ok(Weights::of(weights))
     }

@@ -2,7 +2,7 @@ use Rattle.std.proofs.Common.{◌≡◌, ℕ, List, [], ◌∷◌, ◌++◌, map
 use Rattle.std.specs.Fmt.{signed_decimal}
 use Rattle.std.proofs.lemmas.List.{append_assoc}
 use Rattle.std.proofs.lemmas.Int.{to_z-of_z}
-use Rattle.verdict.specs.Views.{listed}
+use Rattle.few.specs.Views.{listed}
 use Rattle.verdict.specs.Verdicts.{verdict_of}
 use Rattle.holdings.specs.Views.{row_of}
 use Rattle.text.specs.Texts.{text_of, followed_by}

@@ -4,7 +4,7 @@ use Rattle.std.proofs.lemmas.Result.{err_from_is_err_and}
 use Rattle.truth.specs.Dockets.{number, swept, priced}
 use Rattle.truth.specs.Calls.{price, refusal}
 use Rattle.verdict.specs.Answers.{told_docket, answered}
-use Rattle.verdict.specs.Views.{listed}
+use Rattle.few.specs.Views.{listed}
 use Rattle.verdict.proofs.Refused.{taken_none, taken_value, taken_some, if_none, if_some, numbered}
 use Rattle.holdings.specs.Refusals.{weights_refusal, room_refusal}
 use Rattle.holdings.specs.Views.{held, table_of}

@@ -7,7 +7,7 @@ use Rattle.plans.specs.Plans.{no_objective, target_sum}
 use Rattle.plans.proofs.Amounts.{product_within}
 use Rattle.holdings.specs.Views.{held}
 use Rattle.holdings.proofs.Products.{more_fits, more_is, more_near}
-use Rattle.holdings.proofs.Held.{target_near, length_held}
+use Rattle.holdings.proofs.Held.{target_near, held_within}
 use Rattle.holdings.proofs.Rows.{total_more}
 use Rattle.holdings.proofs.objectives.Objectives.target_sum.Goals as goal
 
@@ -33,7 +33,7 @@ near c =
 few : (c : goal.After-scaled-sum) → c.loop-i.i < 4
 few c =
     let s = c.args.self.now in
-    omega (arith, length_held s, ap length c.as_slice-objective-items.ensures, s.within, c.loop-i-test.true)
+    omega (arith, held_within s, ap length c.as_slice-objective-items.ensures, c.loop-i-test.true)
 
 pub overflow_add-sum : goal.overflow_add-sum
 overflow_add-sum c = let l = few c in more_fits _ c.scaled-sum.result c.loop-i.i (2 ^ 56) c.loop-i.invariant.1 (near c) (omega arith)
@@ -54,7 +54,7 @@ pub overflow_cast-result : goal.overflow_cast-result
 overflow_cast-result c =
     let s = c.args.self.now in
     let b = c.loop-i.invariant.1 in
-    omega (arith, ints, length_held s, ap length c.as_slice-objective-items.ensures, s.within, c.loop-i.auto.i-end)
+    omega (arith, ints, held_within s, ap length c.as_slice-objective-items.ensures, c.loop-i.auto.i-end)
 
 pub returns : goal.returns
 returns c =
