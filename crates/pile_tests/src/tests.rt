@@ -294,6 +294,7 @@ fn pile_that_is_full(rt: HostRuntime) {
     assert_eq!(rt; outer.fit(marks_at(&[1])), no_room(4));
     assert_eq!(rt; outer.columns(), 4);
     assert_eq!(rt; outer.states(), 6);
+    assert_eq!(rt; outer.choices(6), None);
 }
 
 #[test]
