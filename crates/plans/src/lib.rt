@@ -7,6 +7,10 @@ ghost use Rattle.plans.specs.Claims.{CeilingBounds, CeilingNear, PartReached, Pa
 
 pub const MAX_OBJECTIVES: usize = 4;
 
+pub const MAX_WEIGHT: u16 = 1000;
+
+pub const MAX_BOUND: usize = 256;
+
 // A column of rewards, the number of steps whose rewards count, and the target in grains (65,536 to a unit of reward).
 #[derive(Clone, Copy, PartialEq, Eq, Debug)]
 pub struct Objective {

@@ -9,7 +9,7 @@ use Rattle.std.proofs.lemmas.Bool.{ne_eqb, and_left, and_right}
 use Rattle.mdp.specs.Table.{Branch}
 use Rattle.plans.specs.declared.Objective.{Objective}
 use Rattle.plans.specs.Totals.{◌·◌, total}
-use Rattle.plans.specs.Plans.{no_objective, earns, earns_by}
+use Rattle.plans.specs.Plans.{earns, earns_by}
 use Rattle.sweep.specs.Limits.{max_weight}
 use Rattle.sweep.specs.Gains.{counts, column_gain, column_gains}
 use Rattle.sweep.specs.Steps.{earned}

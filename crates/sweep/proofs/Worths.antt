@@ -1,5 +1,5 @@
 -- What a step's branches are worth, in the table's own branches. Assumes nothing.
-use Rattle.std.proofs.Common.{◌≡◌, ℕ, ◌≤◌, true, false, cond, ltb, length, get_or, ℤ, pos, ◌+ℤ◌, ◌*ℤ◌, nat_abs, sym, ap, ◌∙◌, subst, zero-le, arith}
+use Rattle.std.proofs.Common.{◌≡◌, ℕ, ◌≤◌, true, false, cond, ltb, length, get_or, pos, ◌+ℤ◌, ◌*ℤ◌, nat_abs, sym, ap, ◌∙◌, subst, zero-le, arith}
 use Rattle.mdp.specs.Table.{Branch, total_weight}
 use Rattle.mdp.specs.Limits.{max_divisor}
 use Rattle.mdp.specs.declared.WholeBranch.{WholeBranch}

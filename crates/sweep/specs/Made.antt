@@ -1,6 +1,6 @@
--- What a step is made from. Assumes nothing.
+-- What a step makes of branches, choices and states. Assumes nothing.
 use Rattle.std.specs.Prelude.{ℕ, cond, List, [], ◌∷◌, length, ℤ, pos, nat_lt, slice_index_or}
-use Rattle.mdp.specs.Table.{Table, Branch, Choice}
+use Rattle.mdp.specs.Table.{Branch, Choice}
 use Rattle.plans.specs.declared.Row.{Row}
 use Rattle.plans.specs.Blends.{Mean}
 use Rattle.plans.specs.Plans.{no_objective, choice_at, earns, earns_by}
@@ -16,7 +16,6 @@ module _ {M : Type 0} {B : _} (p : Step M B) where
   part_after i b =
       cond (nat_lt i (length p.objectives.each.now)) (grains (earns (slice_index_or p.objectives.each.now i no_objective)) p.step (part_at p.next.now i) b) (pos 0)
 
-module _ {M : Type 0} {B : _} (p : Step M B) where
   abbrev pub choice_of : ℕ → ℕ → Choice
   choice_of s k = choice_at (B.table p.model.now) s k
 

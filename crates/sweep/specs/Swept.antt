@@ -1,5 +1,5 @@
 -- What a sweep asks, makes of the rows and answers. Assumes nothing.
-use Rattle.std.specs.Prelude.{◌≡◌, ℕ, ◌-◌, ◌*◌, ◌≤◌, Bool, cond, ◌&&◌, List, [], ◌∷◌, ◌++◌, map, length, take, drop, Some, None, All, Option, ◌==◌, nat_le, slice_index_or}
+use Rattle.std.specs.Prelude.{◌≡◌, ℕ, ◌-◌, ◌*◌, ◌≤◌, Bool, cond, ◌&&◌, List, ◌++◌, map, length, take, drop, Some, None, All, Option, ◌==◌, nat_le, slice_index_or}
 use Rattle.std.specs.List.{list_all, range_with_len}
 use Rattle.mdp.specs.Table.{Table}
 use Rattle.plans.specs.declared.Objective.{Objective}

@@ -4,20 +4,19 @@ ghost use Rattle.plans.specs.Plans.{horizon};
 ghost use Rattle.sweep.specs.Gains.{counts, column_gain, column_gains};
 ghost use Rattle.sweep.specs.Swept.{Asked, all_light, all_near, asked};
 
-use crate::{MAX_BOUND, MAX_OBJECTIVES, MAX_WEIGHT};
 use mdp::MAX_COLUMNS;
-use plans::Objective;
+use plans::{MAX_BOUND, MAX_OBJECTIVES, MAX_WEIGHT, Objective};
 use std::array;
 
 #[derive(Clone, Copy)]
-pub struct WeightedObjectives<'a> {
-    pub each: &'a [Objective],
-    pub weights: &'a [u16],
+pub(crate) struct WeightedObjectives<'a> {
+    pub(crate) each: &'a [Objective],
+    pub(crate) weights: &'a [u16],
     ghost asked: { Asked each.now weights.now },
 }
 
 // Whether an objective's rewards count at a step.
-pub fn is_counted(objective: Objective, step: usize) -> bool
+pub(crate) fn is_counted(objective: Objective, step: usize) -> bool
     ensures { result ≡ counts objective step }
 {
     step < objective.bound
@@ -68,7 +67,10 @@ fn counted_weight(objectives: &[Objective], weights: &[u16], step: usize, column
 
 impl<'a> WeightedObjectives<'a> {
     // None for more than four objectives, another number of weights, a weight above 1000 or a bound above 256.
-    pub fn new(objectives: &'a [Objective], weights: &'a [u16]) -> Option<WeightedObjectives<'a>>
+    pub(crate) fn new(
+        objectives: &'a [Objective],
+        weights: &'a [u16],
+    ) -> Option<WeightedObjectives<'a>>
         ensures { MatchOption result (asked objectives.now weights.now ≡ false) (λ taken. (asked objectives.now weights.now ≡ true) × (taken.each.now ≡ objectives.now) × (taken.weights.now ≡ weights.now)) }
     {
         if is_asked(objectives, weights) {
@@ -88,14 +90,14 @@ impl<'a> WeightedObjectives<'a> {
     }
 
     // For each column, what a reward of 1 there earns at a step.
-    pub fn column_gains(&self, step: usize) -> [u16; MAX_COLUMNS]
+    pub(crate) fn column_gains(&self, step: usize) -> [u16; MAX_COLUMNS]
         ensures { result ≡ column_gains self.now.weights.now self.now.each.now step }
     {
         array::from_fn(|column| self.column_gain(step, column))
     }
 
     // The largest bound, 0 without objectives.
-    pub fn horizon(&self) -> usize
+    pub(crate) fn horizon(&self) -> usize
         ensures { result ≡ horizon self.now.each.now }
     {
         self.each

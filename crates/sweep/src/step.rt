@@ -59,13 +59,13 @@ fn grains_onto(worth: i64, amount: i64) -> i64
 
 // What a step is made from: among it the gains of the columns, and the rows of the step after it.
 #[derive(Drop)]
-pub struct Step<'a, 'b, M: Model> {
-    pub model: &'a M,
-    pub objectives: WeightedObjectives<'a>,
-    pub gains: [u16; MAX_COLUMNS],
-    pub step: usize,
-    pub divisor: u16,
-    pub next: &'b [Row],
+pub(crate) struct Step<'a, 'b, M: Model> {
+    pub(crate) model: &'a M,
+    pub(crate) objectives: WeightedObjectives<'a>,
+    pub(crate) gains: [u16; MAX_COLUMNS],
+    pub(crate) step: usize,
+    pub(crate) divisor: u16,
+    pub(crate) next: &'b [Row],
     ghost gained: { gains ≡ column_gains objectives.weights.now objectives.each.now step },
     ghost divided: { divisor ≡ (M.Model.table model.now).divisor },
     ghost whole: { length next.now ≡ length (M.Model.table model.now).states },
@@ -155,6 +155,7 @@ impl<M: Model> Step<'_, '_, M> {
         }
     }
 
+    // By name: an array of running amounts is mapped only where their type is known to fit in memory, which no blend says.
     fn choice_parts<D: Blend>(&self, state: usize, choice: usize) -> [i64; MAX_OBJECTIVES]
         ensures { result ≡ parts_of self.now D.Blend.mean state choice }
     {
@@ -203,7 +204,7 @@ impl<M: Model> Step<'_, '_, M> {
     }
 
     // Writes the row of each state.
-    pub fn write_rows<U: Blend, D: Blend>(&self, rows: &mut [Row])
+    pub(crate) fn write_rows<U: Blend, D: Blend>(&self, rows: &mut [Row])
         ensures { rows.new ≡ map (row_of self.now U.Blend.mean D.Blend.mean) (range_with_len 0 (length rows.old)) }
     {
         for (state, row) in rows.iter_mut().enumerate() {

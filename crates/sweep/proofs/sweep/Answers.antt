@@ -1,10 +1,10 @@
-use Rattle.std.proofs.Common.{◌≡◌, ℕ, ◌-◌, ◌*◌, true, List, ◌++◌, length, drop, replicate, Some, sym, ap, ◌∙◌, rules, arith}
+use Rattle.std.proofs.Common.{◌≡◌, ℕ, ◌-◌, ◌*◌, true, List, ◌++◌, length, drop, Some, ap, ◌∙◌, rules, arith}
 use Rattle.std.proofs.lemmas.Bool.{and_from, le-leb}
 use Rattle.plans.specs.declared.Objective.{Objective}
 use Rattle.plans.specs.declared.Row.{Row}
 use Rattle.plans.specs.Plans.{horizon}
 use Rattle.plans.specs.Sweep.{zero_row, rows}
-use Rattle.sweep.specs.Swept.{asked, askable, swept, answer}
+use Rattle.sweep.specs.Swept.{asked, askable}
 use Rattle.sweep.proofs.Halves.{filled}
 use Rattle.sweep.proofs.Turns.{start_beyond, start_halves, turn_small, turn_halves, first_row}
 use Rattle.sweep.proofs.sweep.Goals as goal
@@ -46,7 +46,7 @@ returns g c =
     let both : List Objective → List ℕ → ℕ → List Row = λ os ws n. R os ws n ++ (R os ws (n - 1) ++ rest) in
     let zero : horizon os - c.loop-step.step ≡ horizon os = omega (arith, c.loop-step-test.false) in
     let all : c.loop-step.rows ≡ both os ws (horizon os) =
-        c.loop-step.invariant ∙ ap (λ os. both os c.in_ok-objectives.objectives.weights.now (horizon os - c.loop-step.step)) new.1 ∙ ap (λ ws. both os ws (horizon os - c.loop-step.step)) new.2 ∙ ap (both os ws) zero in
+    c.loop-step.invariant ∙ ap (λ os. both os c.in_ok-objectives.objectives.weights.now (horizon os - c.loop-step.step)) new.1 ∙ ap (λ ws. both os ws (horizon os - c.loop-step.step)) new.2 ∙ ap (both os ws) zero in
     let old = start_beyond up down t os ws n a.rows.now now c.states-states.ensures (filled (2 * n) zero_row a.rows.now c.fill.new.self c.if-rows-states.false (c.fill.ensures.after (λ y e. search rules))) in
     let at = first_row up down t os ws (horizon os) rest c.loop-step.rows all (g.M.Model.facts a.model.now).first_in c.first.result c.first.ensures in
     let room = le-leb (2 * length t.states) (length a.rows.now) (omega (arith, c.if-rows-states.false, c.states-states.ensures)) in
