@@ -33,7 +33,9 @@ fn read_sized<'a>(cases: &mut &'a [u8]) -> anyhow::Result<&'a [u8]>
     ensures { OnOk result (length cases.new.now ≤ length cases.old.now) }
 {
     let size = cases.read_u32::<LittleEndian>()?;
-    cases.split_off(..size as usize).context("cases.bin is cut")
+    cases
+        .split_off(..usize::try_from(size)?)
+        .context("cases.bin is cut")
 }
 
 // Takes the first case off the cases.

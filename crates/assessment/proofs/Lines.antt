@@ -1,17 +1,15 @@
 -- Lines, piece by piece. Assumes nothing.
-use Rattle.std.proofs.Common.{◌≡◌, ℕ, List, [], ◌∷◌, ◌++◌, decimal, sym, refl, ap, ◌∙◌, arith, length-take}
+use Rattle.std.proofs.Common.{◌≡◌, ℕ, List, [], ◌∷◌, ◌++◌, decimal, sym, refl, ap, ◌∙◌}
 use Rattle.std.specs.List.{flat_map}
 use Rattle.std.proofs.lemmas.List.{append-nil, take_all}
 use Rattle.text.specs.declared.Text.{Text}
 use Rattle.text.specs.Texts.{text_of, followed_by}
+use Rattle.text.proofs.Lengths.{length_text}
 use Rattle.text.proofs.Followed.{followed_twice}
 use Rattle.assessment.specs.Listings.{spaced}
 
 pub then_none : (t : Text) → followed_by (text_of t) [] ≡ text_of t
-then_none t =
-    let w = t.within in
-    let l = length-take t.len t.bytes in
-    rw append-nil (take_all 64 (text_of t) (omega arith))
+then_none t = rw append-nil (take_all 64 (text_of t) (length_text t))
 
 -- one piece after the other
 abbrev pub put : List ℕ → List (List ℕ) → List ℕ

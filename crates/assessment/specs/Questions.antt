@@ -1,7 +1,6 @@
 -- The bytes of a question. Assumes nothing.
-use Rattle.std.specs.Prelude.{◌≡◌, ℕ, zero, suc, ◌+◌, ◌*◌, ◌/◌, ◌%◌, ◌^◌, ◌<◌, List, [], ◌∷◌, ◌++◌, length, take, drop, pos, neg_ℤ, ◌≤ℤ◌, ◌<ℤ◌, All, slice_index}
-use Rattle.std.proofs.Common.{of_z, to_z}
-use Rattle.std.specs.Int.{w64}
+use Rattle.std.specs.Prelude.{◌≡◌, ℕ, ◌+◌, ◌^◌, ◌<◌, List, [], ◌∷◌, ◌++◌, length, take, drop, pos, neg_ℤ, ◌≤ℤ◌, ◌<ℤ◌, All, slice_index}
+use Rattle.std.specs.Int.{w16, w64, to_le_bytes, from_le_bytes, cast_signed, cast_unsigned}
 use Rattle.std.specs.List.{flat_map}
 use Rattle.plans.specs.declared.Objective.{Objective}
 
@@ -12,29 +11,19 @@ objective_size = 11
 abbrev pub question_size : ℕ
 question_size = 22
 
--- n bytes, the low one first
-abbrev pub low_first : ℕ → ℕ → List ℕ
-low_first zero v = []
-low_first (suc n) v = v % 256 ∷ low_first n (v / 256)
-
--- column, bound and target, this in two's complement
+-- column, bound and target, this in two's complement; of each the low byte first
 abbrev pub objective_bytes : Objective → List ℕ
-objective_bytes o = o.column ∷ (low_first 2 o.bound ++ low_first 8 (of_z w64 o.target))
+objective_bytes o = o.column ∷ (to_le_bytes w16 o.bound ++ to_le_bytes w64 (cast_unsigned w64 o.target))
 
 abbrev pub question_bytes : List Objective → List ℕ
 question_bytes os = flat_map objective_bytes os
-
--- the number whose bytes these are, the low one first
-abbrev pub number_of : List ℕ → ℕ
-number_of [] = 0
-number_of (b ∷ bs) = b + 256 * number_of bs
 
 -- the objective whose bytes stand at an offset
 abbrev pub objective_at : List ℕ → ℕ → Objective
 objective_at bs at = record {
   column = slice_index bs at;
-  bound = number_of (take 2 (drop (at + 1) bs));
-  target = to_z w64 (number_of (take 8 (drop (at + 3) bs)));
+  bound = from_le_bytes w16 (take 2 (drop (at + 1) bs));
+  target = cast_signed w64 (from_le_bytes w64 (take 8 (drop (at + 3) bs)));
 }
 
 -- what a question of 22 bytes asks

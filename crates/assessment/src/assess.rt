@@ -17,7 +17,7 @@ use crate::faults::{QuestionCause, QuestionFault};
 use crate::listing::{list, list_fault};
 use crate::question::read;
 use docket::draft::Draft;
-use fault::Fault;
+use fault::Cause;
 use file_model::FileModel;
 use mdp::Model;
 use plans::{Objective, Row};
@@ -35,10 +35,10 @@ fn add<M: Model>(
     ensures after { held draft.new.objectives ≡ added (M.Model.table draft.old.model).columns (held draft.old.objectives) objective }
     ensures model { draft.new.model ≡ draft.old.model }
 {
-    match draft.add(objective) {
-        Ok(_) => Ok(()),
-        Err(fault) => Err(QuestionFault::from(fault).at(offset)),
-    }
+    draft
+        .add(objective)
+        .map(|_| ())
+        .map_err(|fault| QuestionFault::from(fault).at(offset))
 }
 
 // The lines of the docket that two objectives pose over a model, once it is settled.
@@ -64,10 +64,7 @@ fn check_print(room: usize) -> Result<(), QuestionFault>
     ensures { told result ≡ unless (print_fault room) tt }
 {
     if room < MAX_TEXT {
-        return Err(QuestionFault::from(Fault {
-            cause: QuestionCause::Print,
-            place: room,
-        }));
+        return Err(QuestionFault::from(QuestionCause::Print.at(room)));
     }
     Ok(())
 }
@@ -107,8 +104,8 @@ pub fn assess(
     if let Some(fault) = model.fault() {
         return Err(QuestionFault::from(fault));
     }
-    let objectives = check(question, print.len())?;
-    let text = settle_pair(model, objectives[0], objectives[1], rows)?;
+    let [first, second] = check(question, print.len())?;
+    let text = settle_pair(model, first, second, rows)?;
     Ok(put(&text, print))
 }
 

@@ -27,7 +27,7 @@ impl Cause for QuestionCause {
     }
 }
 
-// A fault of any layer that a question reaches.
+// A fault of any layer that a question reaches. Each has its own `From`: an enum of the causes alone would need one for each too.
 #[derive(Clone, Copy)]
 pub enum LayerFault {
     File(FileFault),
@@ -48,10 +48,7 @@ impl QuestionFault {
     pub fn at(self, offset: usize) -> QuestionFault
         ensures { result ≡ record { offset = offset; fault = self.fault } }
     {
-        QuestionFault {
-            offset,
-            fault: self.fault,
-        }
+        QuestionFault { offset, ..self }
     }
 }
 

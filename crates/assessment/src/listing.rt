@@ -1,5 +1,5 @@
 // The lines that are printed of a docket, or of a fault.
-ghost use Rattle.std.specs.Prelude.{◌≡◌, [], ◌∷◌, map, if◌then◌else◌, nat_lt};
+ghost use Rattle.std.specs.Prelude.{◌≡◌, ◌<◌, [], ◌∷◌, map, if◌then◌else◌, nat_lt};
 ghost use Rattle.std.specs.List.{flat_map};
 ghost use Rattle.fault.specs.Texts.{fault_text};
 ghost use Rattle.truth.specs.Dockets.{backed};
@@ -19,10 +19,10 @@ use verdict::verdict::Verdict;
 fn push_line(text: &mut Text, first: u16, rest: &[u16])
     ensures { text_of text.new ≡ followed_by (text_of text.old) (line (spaced (first ∷ rest.now))) }
 {
-    text.push_decimal(u64::from(first));
+    text.push_number(first);
     for number in rest {
         text.push_str(" ");
-        text.push_decimal(u64::from(*number));
+        text.push_number(*number);
     }
     text.push_str("\n");
 }
@@ -39,10 +39,8 @@ fn push_share(text: &mut Text, share: u16, weights: &[u16])
 fn push_shares(text: &mut Text, shares: &[u16], rows: &[TableRow])
     ensures { text_of text.new ≡ followed_by (text_of text.old) (flat_map share_line (backed shares.now (map row_of rows.now))) }
 {
-    for (row, share) in shares.iter().enumerate() {
-        if row < rows.len() {
-            push_share(text, *share, rows[row].weights.as_slice());
-        }
+    for (share, row) in shares.iter().zip(rows) {
+        push_share(text, *share, row.weights.as_slice());
     }
 }
 
@@ -73,9 +71,9 @@ pub(crate) fn list(verdict: Verdict, rows: &[TableRow]) -> Text
         } => {
             text.push_str("refuted\n");
             push_weights(&mut text, weights.as_slice());
-            text.push_signed(ceiling);
+            text.push_number(ceiling);
             text.push_str(" ");
-            text.push_signed(target_sum);
+            text.push_number(target_sum);
             text.push_str("\n");
         }
     }
@@ -83,13 +81,14 @@ pub(crate) fn list(verdict: Verdict, rows: &[TableRow]) -> Text
 }
 
 fn push_fault<C: Cause + Drop>(text: &mut Text, fault: Fault<C>)
-    ensures { text_of text.new ≡ followed_by (text_of text.old) (fault_text C.Cause.word (C.Cause.numbered fault.cause) fault.place) }
+    ensures text { text_of text.new ≡ followed_by (text_of text.old) (fault_text C.Cause.word (C.Cause.numbered fault.cause) fault.place) }
+    ensures number { C.Cause.numbered fault.cause < 256 }
 {
     text.push_str(C::layer());
     text.push_str(" ");
-    text.push_decimal(u64::from(fault.cause.number()));
+    text.push_number(fault.cause.number());
     text.push_str(" ");
-    text.push_decimal(fault.place as u64);
+    text.push_number(fault.place);
 }
 
 pub(crate) fn list_fault(fault: QuestionFault) -> Text
@@ -97,7 +96,7 @@ pub(crate) fn list_fault(fault: QuestionFault) -> Text
 {
     let mut text = Text::new();
     text.push_str("fault ");
-    text.push_decimal(fault.offset as u64);
+    text.push_number(fault.offset);
     text.push_str(" ");
     match fault.fault {
         LayerFault::File(fault) => push_fault(&mut text, fault),

@@ -18,7 +18,7 @@ fn read_case<'a>(cases: &mut &'a [u8]) -> anyhow::Result<(&'a str, &'a [u8])>
         .context("cases.bin is cut")?;
     let size = cases.read_u32::<LittleEndian>()?;
     let file = cases
-        .split_off(..size as usize)
+        .split_off(..usize::try_from(size)?)
         .context("cases.bin is cut")?;
     Ok((std::str::from_utf8(name)?, file))
 }

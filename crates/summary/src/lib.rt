@@ -32,10 +32,12 @@ impl fmt::Display for Summary {
     ghost output = { λ s. Some (summary_text s) };
 
     fn fmt<W: fmt::Write>(&self, f: &mut fmt::Formatter<W>) -> fmt::Result {
-        let states = self.states;
-        let first = self.first;
-        let divisor = self.divisor;
-        let columns = self.columns;
+        let Summary {
+            states,
+            first,
+            divisor,
+            columns,
+        } = *self;
         write!(
             f,
             "states {states}, first {first}, divisor {divisor}, columns {columns}"

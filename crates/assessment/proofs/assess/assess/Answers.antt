@@ -32,21 +32,21 @@ returns-in-Some c =
       truth = shows_true file q lent (model_facts (goal.at.returns-in-Some c).After-read-model);
     }
 
-pub returns-in_err-objectives : goal.returns-in_err-objectives
-returns-in_err-objectives c =
+pub returns-in_err-first : goal.returns-in_err-first
+returns-in_err-first c =
     let file = c.args.model.now in
     let q = c.args.question.now in
     let lent = length c.args.rows.now in
     let room = length c.args.print.now in
     let good = c.in_default.ensures ∙ c.read-model.ensures.fault in
     let (y, is, same) = err_from_is_err_and c.from_residual.result c.from_residual.ensures.1 in
-    let early = answers_some (early_fault q room) _ (asked q) c.in_err-objectives.ensures in
+    let early = answers_some (early_fault q room) _ (asked q) c.in_err-first.ensures in
     let fault = by_question file q lent room good _ early ∙ ap (λ f. Some (told_fault f)) (sym same) in
     record {
       answer = refused_told _ c.from_residual.result y _ is fault;
       rows = refused_stays _ (told_fault y) _ _ fault;
       print = refused_stays _ (told_fault y) _ _ fault;
-      truth = shows_true file q lent (model_facts (goal.at.returns-in_err-objectives c).After-read-model);
+      truth = shows_true file q lent (model_facts (goal.at.returns-in_err-first c).After-read-model);
     }
 
 pub returns-in_err-text : goal.returns-in_err-text
@@ -59,9 +59,9 @@ returns-in_err-text c =
     let good = c.in_default.ensures ∙ c.read-model.ensures.fault in
     let t = decode c.read-model.result.bytes.now in
     let m = c.read-model.ensures.model in
-    let os = c.in_ok-objectives.objectives in
-    let early = answers_none (early_fault q room) os (asked q) c.in_ok-objectives.ensures in
-    let two = answers_value (early_fault q room) os (asked q) c.in_ok-objectives.ensures in
+    let os = c.in_ok-first.field-0 in
+    let early = answers_none (early_fault q room) os (asked q) c.in_ok-first.ensures in
+    let two = answers_value (early_fault q room) os (asked q) c.in_ok-first.ensures in
     let (y, is, same) = err_from_is_err_and c.from_residual-in_err-text.result c.from_residual-in_err-text.ensures.1 in
     let told = pair_answer file q lent room good early t os m two (Err (told_fault c.in_err-text.field-0.0)) c.in_err-text.ensures.answer in
     let fault = answers_some _ _ _ told ∙ ap (λ f. Some (told_fault f)) (sym same) in
@@ -76,7 +76,7 @@ pub put-requires : goal.put-requires
 put-requires c =
     let q = c.args.question.now in
     let room = length c.args.print.now in
-    wide_enough q room (answers_none (early_fault q room) c.in_ok-objectives.objectives (asked q) c.in_ok-objectives.ensures)
+    wide_enough q room (answers_none (early_fault q room) c.in_ok-first.field-0 (asked q) c.in_ok-first.ensures)
 
 pub returns : goal.returns
 returns c =
@@ -89,9 +89,9 @@ returns c =
     let good = c.in_default.ensures ∙ c.read-model.ensures.fault in
     let t = decode c.read-model.result.bytes.now in
     let m = c.read-model.ensures.model in
-    let os = c.in_ok-objectives.objectives in
-    let early = answers_none (early_fault q room) os (asked q) c.in_ok-objectives.ensures in
-    let two = answers_value (early_fault q room) os (asked q) c.in_ok-objectives.ensures in
+    let os = c.in_ok-first.field-0 in
+    let early = answers_none (early_fault q room) os (asked q) c.in_ok-first.ensures in
+    let two = answers_value (early_fault q room) os (asked q) c.in_ok-first.ensures in
     let f = assess_fault file q lent room in
     let lines = listing (assessed file q lent) in
     let told = pair_answer file q lent room good early t os m two (Ok (text_of c.in_ok-text.text)) c.in_ok-text.ensures.answer in
