@@ -1,14 +1,13 @@
 -- Objectives within the limits. Assumes nothing.
-use Rattle.std.proofs.Common.{◌≡◌, ℕ, zero, suc, ◌+◌, ◌^◌, ◌<◌, ◌≤◌, Bool, true, false, cond, not, Some, None, ◌&&◌, ltb, leb, List, [], ◌∷◌, ◌++◌, length, get_or, take, ℤ, pos, neg_ℤ, nat_abs, ◌≤ℤ◌, sym, refl, ap, ◌∙◌, subst, ⊎_elim, arith}
-use Rattle.std.specs.List.{prefix_len, position}
+use Rattle.std.proofs.Common.{◌≡◌, ℕ, zero, suc, ◌+◌, ◌^◌, ◌<◌, ◌≤◌, true, List, [], ◌∷◌, ◌++◌, length, get_or, take, ℤ, pos, neg_ℤ, nat_abs, ◌≤ℤ◌, sym, refl, ap, ◌∙◌, subst, arith}
 use borrow.Author.Differences.{ints}
 use lib.Signed.{le_z}
-use Rattle.std.proofs.lemmas.List.{get_or_append_left, get_or_push, get_or-take, length_push, length-take-le, ext_get_or}
-use Rattle.std.proofs.lemmas.Bool.{and_parts, leb-true, cases_order}
+use Rattle.std.proofs.lemmas.List.{length-take-le}
+use Rattle.std.proofs.lemmas.Bool.{and_parts}
 use Rattle.plans.specs.declared.Objective.{Objective}
 use Rattle.plans.specs.Plans.{no_objective}
 use Rattle.truth.specs.Dockets.{each_by, aimed}
-use Rattle.truth.specs.Calls.{small_target, small_targets, allowed}
+use Rattle.truth.specs.Calls.{small_target, small_targets}
 use Rattle.truth.proofs.Tests.{leading_passes}
 use Rattle.truth.proofs.Targets.{length_each_by}
 use Rattle.few.proofs.Lengths.{listed_within}
@@ -23,39 +22,10 @@ from_small_target z h =
     let b = p.1 in
     (grind (arith, ints), grind (arith, ints))
 
-pub allowed_true : (n : ℕ) (o : Objective) → allowed n o ≡ true → Allowed o
-allowed_true n o h =
-    let p = and_parts (ltb o.column n) (leb 1 o.bound && (leb o.bound 256 && small_target o.target)) h in
-    let q = and_parts (leb 1 o.bound) (leb o.bound 256 && small_target o.target) p.1 in
-    let r = and_parts (leb o.bound 256) (small_target o.target) q.1 in
-    let t = from_small_target o.target r.1 in
-    (leb-true 1 o.bound q.0, leb-true o.bound 256 r.0, t.0, t.1)
-
-pub allowed_push : (os : List Objective) (o : Objective) → AllAllowed os → Allowed o → AllAllowed (os ++ (o ∷ []))
-allowed_push os o h a k l =
-    let n = length_push os o in
-    ⊎_elim
-    (λ e. subst Allowed (sym (get_or_push os o no_objective k (sym e))) a)
-    (⊎_elim
-    (λ below. subst Allowed (sym (get_or_append_left os (o ∷ []) no_objective k below)) (h k below))
-    (λ above. absurd (omega arith)))
-    (cases_order k (length os))
-
 getD_each_by : {X Y : Type 0} (f : ℕ → X → Y) (xs : List X) (k : ℕ) (d : X) (e : Y) → k < length xs → get_or (each_by f xs) k e ≡ f k (get_or xs k d)
 getD_each_by f [] k d e h = absurd (omega arith)
 getD_each_by f (x ∷ xs) zero d e h = refl
 getD_each_by f (x ∷ xs) (suc k) d e h = getD_each_by (λ j. f (suc j)) xs k d e (omega arith)
-
--- the first that a test does not pass
-prefix_same : {X : Type 0} (p q : X → Bool) (xs : List X) → ((x : X) → p x ≡ q x) → prefix_len p xs ≡ prefix_len q xs
-prefix_same p q [] same = refl
-prefix_same p q (x ∷ xs) same = (λ i. cond (same x i) (1 + prefix_len p xs) 0) ∙ ap (λ n. cond (q x) (1 + n) 0) (prefix_same p q xs same)
-
-pub position_failing : {X : Type 0} (p q : X → Bool) (xs : List X) → ((x : X) → q x ≡ not (p x)) →
-    position q xs ≡ cond (ltb (prefix_len p xs) (length xs)) (Some (prefix_len p xs)) None
-position_failing p q xs fails =
-    let twice : prefix_len (λ x. not (q x)) xs ≡ prefix_len p xs = prefix_same (λ x. not (q x)) p xs (λ x. ap not (fails x) ∙ elim (p x) as (λ b. not (not b) ≡ b) [ true ↦ refl | false ↦ refl ]) in
-    ap (λ n. cond (ltb n (length xs)) (Some n) None) twice
 
 -- one element more
 pub each_by_more : {X Y : Type 0} (f : ℕ → X → Y) (xs : List X) (k : ℕ) (d : X) → k < length xs →

@@ -7,7 +7,7 @@ use Rattle.std.specs.List.{find, range_with_len}
 use Rattle.std.specs.Bool.{IsTrue}
 use Rattle.std.specs.Option.{MatchOption, IfSome, IsSomeAnd, option_map}
 use Rattle.std.specs.declared.ops.Range.{Range}
-use Rattle.std.specs.Iterator.Runs.{Run, SomeRun, AllItemsGive, IsFirstToGive, CallKeepsClosure}
+use Rattle.std.specs.Iterator.Runs.{SomeRun, AllItemsGive, IsFirstToGive, CallKeepsClosure}
 use Rattle.std.proofs.iter.Yields.{nat_range_steps}
 use Rattle.std.proofs.iter.runs.Sources.{range_runs}
 use Rattle.std.proofs.lemmas.List.{take_all, length-set, length-replicate, length-take-le, get_or_past, get_or-take, get_or-set_same, get_or-set_other, get_or-replicate}

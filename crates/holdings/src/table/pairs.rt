@@ -65,6 +65,7 @@ fn find_share(
     requires inside { second < length rows.now }
     ensures { option_map listed result ≡ find (suffice (held objectives.now) (map row_of rows.now)) (shares_from (length rows.now) first second 0) }
 {
+    // (tried as `find_map`: a closure that makes the pair has no proof of the pair's facts)
     for share in 0..=1000 {
         let pair = Pair {
             rows,

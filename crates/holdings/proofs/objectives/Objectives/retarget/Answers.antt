@@ -1,9 +1,8 @@
-use Rattle.std.proofs.Common.{◌≡◌, ℕ, List, length, ℤ, None, sym, ap, subst, ◌∙◌, arith}
+use Rattle.std.proofs.Common.{◌≡◌, ℕ, List, ℤ, None, sym, ap, subst, ◌∙◌, arith}
 use Rattle.std.proofs.lemmas.List.Sums.{prefix_len-le-length}
 use Rattle.std.proofs.lemmas.Bool.Decides.{nat_tests}
 use Rattle.truth.specs.Dockets.{each_by, aimed}
 use Rattle.truth.specs.Calls.{small_target, small_targets}
-use Rattle.few.proofs.Lengths.{length_listed}
 use Rattle.verdict.proofs.Refused.{taken_none}
 use Rattle.holdings.specs.Limits.{AllAllowed}
 use Rattle.holdings.specs.Refusals.{targets_refusal}

@@ -1,10 +1,8 @@
-use Rattle.std.proofs.Common.{◌≡◌, ◌<◌, ◌≤◌, not, List, length, None, Some, Ok, sym, ap, ◌∙◌, arith}
-use Rattle.std.proofs.lemmas.List.{length-map}
-use Rattle.std.proofs.lemmas.List.Sums.{prefix_len-le-length}
+use Rattle.std.proofs.Common.{◌∙◌, arith}
 use Rattle.std.proofs.lemmas.Bool.Decides.{nat_tests}
 use Rattle.truth.specs.Dockets.{same}
 use Rattle.few.specs.Views.{listed}
-use Rattle.holdings.specs.Views.{row_of, rows_in, table_of}
+use Rattle.holdings.specs.Views.{row_of, rows_in}
 use Rattle.holdings.proofs.Rows.{number_in, position_none, length_table_of, table_within}
 use Rattle.holdings.proofs.table.RowTable.check_room.Goals as goal
 

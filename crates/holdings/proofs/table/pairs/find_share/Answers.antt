@@ -1,4 +1,4 @@
-use Rattle.std.proofs.Common.{Some, length, map, sym, refl, ap, ◌∙◌, arith}
+use Rattle.std.proofs.Common.{Some, length, map, sym, ap, ◌∙◌, arith}
 use Rattle.truth.specs.Dockets.{suffice}
 use Rattle.holdings.specs.Views.{held, row_of}
 use Rattle.holdings.proofs.Pairs.{shares_first, shares_next, shares_none}

@@ -1,4 +1,4 @@
-use Rattle.std.proofs.Common.{length, ◌∙◌, rules}
+use Rattle.std.proofs.Common.{length, rules}
 use Rattle.holdings.proofs.Pairs.{pair_is}
 use Rattle.holdings.proofs.table.pairs.Pair.shares.Goals as goal
 
