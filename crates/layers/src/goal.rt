@@ -1,5 +1,5 @@
 // A layer that pays for the first marked state that is met.
-ghost use Rattle.std.specs.Prelude.{◌≡◌, ◌≤◌, length, nat_le, IfSome, Some, None, is_ok, if◌then◌else◌};
+ghost use Rattle.std.specs.Prelude.{◌≡◌, ◌≤◌, length, nat_le, IfSome, is_ok, if◌then◌else◌};
 ghost use Rattle.std.specs.Option.{ForSome, option_map};
 ghost use Rattle.tables.specs.Goal.{max_marks, state_below, goal_next, goal_reward, goal_table, GoalFits, goal_view, view_below};
 ghost use Rattle.tables.proofs.Goal.{goal_facts};

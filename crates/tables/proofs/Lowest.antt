@@ -1,14 +1,9 @@
 -- What a search for the lowest number finds.
 use Rattle.std.proofs.Common.{◌≡◌, ℕ, zero, suc, ◌+◌, ◌<◌, ◌≤◌, Bool, true, false, cond, Some, None, refl, ap, ◌∙◌, subst, inl, inr, arith}
 use Rattle.std.proofs.lemmas.Bool.{cases_order}
-use Rattle.std.specs.List.{find, range_with_len}
 use Rattle.tables.specs.Goal.{lowest}
 
 module _ (p : ℕ → Bool) where
-  pub lowest_is : (k n : ℕ) → find p (range_with_len k n) ≡ lowest p k n
-  unfolding lowest
-  lowest_is k n = refl
-
   -- what is found passes, and nothing below it does
   pub record Lowest (k n s : ℕ) : Type 0 where
     pub passes : p s ≡ true
