@@ -13,12 +13,8 @@ use crate::objectives::WeightedObjectives;
 use crate::step::Step;
 use blend::Blend;
 use mdp::Model;
-pub use plans::MAX_OBJECTIVES;
+pub use plans::{MAX_BOUND, MAX_OBJECTIVES, MAX_WEIGHT};
 use plans::{Objective, Row};
-
-pub const MAX_WEIGHT: u16 = 1000;
-
-pub const MAX_BOUND: usize = 256;
 
 // From the rows of the step after it in the first half, those of a step; the former move to the second half.
 fn sweep_step<M: Model, U: Blend, D: Blend>(
