@@ -1,5 +1,5 @@
 -- What each question answers of a table: none where the table lacks what is asked about. Assumes nothing.
-use Rattle.std.specs.Prelude.{ℕ, List, [], ◌∷◌, length, ℤ, pos, Some, None, Option}
+use Rattle.std.specs.Prelude.{ℕ, [], ◌∷◌, length, ℤ, pos, Some, None, Option}
 use Rattle.std.specs.Option.{option_map, unwrap_or}
 use Rattle.std.specs.List.{slice_get}
 use Rattle.mdp.specs.declared.WholeBranch.{WholeBranch}

@@ -5,6 +5,8 @@ ghost use Rattle.std.specs.Prelude.{◌≡◌, length};
 ghost use Rattle.mdp.specs.Table.{Table, Facts};
 ghost use Rattle.mdp.specs.Questions.{choice_count, branch_count, weight_of, next_of, reward_of, whole_branch};
 
+use std::array;
+
 pub const MAX_STATES: usize = 512;
 
 pub const MAX_DIVISOR: u16 = 10000;
@@ -66,12 +68,9 @@ pub trait Model {
     {
         let weight = self.weight(state, choice, branch)?;
         let next = self.next(state, choice, branch)?;
-        let rewards = [
-            self.reward(state, choice, branch, 0).unwrap_or(0),
-            self.reward(state, choice, branch, 1).unwrap_or(0),
-            self.reward(state, choice, branch, 2).unwrap_or(0),
-            self.reward(state, choice, branch, 3).unwrap_or(0),
-        ];
+        let rewards = array::from_fn(|column| self
+            .reward(state, choice, branch, column)
+            .unwrap_or(0));
         Some(WholeBranch {
             weight,
             next,

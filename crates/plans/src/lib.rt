@@ -21,128 +21,35 @@ pub struct Row {
     pub parts: [i64; 4],
 }
 
-pub fn ceiling_bounds_value() -> u8
-    ensures { CeilingBoundsValue }
-{
-    0
-}
+// What every blend does, and what the two means are.
+pub fn laws_of_blends()
+    ensures means_lawful { MeansLawful }
+    ensures mean_up_least { MeanUpLeast }
+    ensures mean_down_greatest { MeanDownGreatest }
+    ensures blend_within { BlendWithin }
+{}
 
-pub fn ceiling_is_value() -> u8
-    ensures { CeilingIsValue }
-{
-    0
-}
+// What the rows of a sweep over any blends are worth.
+pub fn laws_of_sweeps()
+    ensures ceiling_bounds_value { CeilingBoundsValue }
+    ensures ceiling_is_value { CeilingIsValue }
+    ensures part_is_value { PartIsValue }
+    ensures parts_past { PartsPast }
+    ensures plan_valid { PlanValid }
+    ensures best_first { BestFirst }
+    ensures rows_small { RowsSmall }
+{}
 
-pub fn part_is_value() -> u8
-    ensures { PartIsValue }
-{
-    0
-}
-
-pub fn parts_past() -> u8
-    ensures { PartsPast }
-{
-    0
-}
-
-pub fn plan_valid() -> u8
-    ensures { PlanValid }
-{
-    0
-}
-
-pub fn best_first() -> u8
-    ensures { BestFirst }
-{
-    0
-}
-
-pub fn blend_within() -> u8
-    ensures { BlendWithin }
-{
-    0
-}
-
-pub fn rows_small() -> u8
-    ensures { RowsSmall }
-{
-    0
-}
-
-pub fn means_lawful() -> u8
-    ensures { MeansLawful }
-{
-    0
-}
-
-pub fn mean_up_least() -> u8
-    ensures { MeanUpLeast }
-{
-    0
-}
-
-pub fn mean_down_greatest() -> u8
-    ensures { MeanDownGreatest }
-{
-    0
-}
-
-pub fn ceiling_bounds() -> u8
-    ensures { CeilingBounds }
-{
-    0
-}
-
-pub fn ceiling_near() -> u8
-    ensures { CeilingNear }
-{
-    0
-}
-
-pub fn part_reached() -> u8
-    ensures { PartReached }
-{
-    0
-}
-
-pub fn part_near() -> u8
-    ensures { PartNear }
-{
-    0
-}
-
-pub fn out_of_reach() -> u8
-    ensures { OutOfReach }
-{
-    0
-}
-
-pub fn miss_refutes() -> u8
-    ensures { MissRefutes }
-{
-    0
-}
-
-pub fn within_reach() -> u8
-    ensures { WithinReach }
-{
-    0
-}
-
-pub fn clear_achieves() -> u8
-    ensures { ClearAchieves }
-{
-    0
-}
-
-pub fn mixture_valid() -> u8
-    ensures { MixtureValid }
-{
-    0
-}
-
-pub fn horizon_covers() -> u8
-    ensures { HorizonCovers }
-{
-    0
-}
+// What a sweep by the two means says of exact rewards, of plans and of mixtures.
+pub fn laws_of_plans()
+    ensures ceiling_bounds { CeilingBounds }
+    ensures ceiling_near { CeilingNear }
+    ensures part_reached { PartReached }
+    ensures part_near { PartNear }
+    ensures horizon_covers { HorizonCovers }
+    ensures out_of_reach { OutOfReach }
+    ensures miss_refutes { MissRefutes }
+    ensures within_reach { WithinReach }
+    ensures clear_achieves { ClearAchieves }
+    ensures mixture_valid { MixtureValid }
+{}

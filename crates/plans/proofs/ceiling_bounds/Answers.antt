@@ -1,5 +1,0 @@
-use Rattle.plans.proofs.ceiling_bounds.Goals as goal
-use Rattle.plans.proofs.Near.{ceiling_bounds}
-
-pub returns : goal.returns
-returns c = ceiling_bounds
