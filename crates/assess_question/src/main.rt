@@ -15,10 +15,7 @@ fn main(rt: HostRuntime) -> io::Result<()> {
     // A file that cannot be read counts as empty.
     let model = fs::read(&rt, "model.bin").unwrap_or(Vec::new(rt.alloc()));
     let question = fs::read(&rt, "question.bin").unwrap_or(Vec::new(rt.alloc()));
-    let mut rows = [Row {
-        ceiling: 0,
-        parts: [0; 4],
-    }; ROWS];
+    let mut rows = [Row::ZERO; ROWS];
     let mut print = [0; PRINT_BYTES];
     let printed = assess(model.as_slice(), question.as_slice(), &mut rows, &mut print)
         .or_else(|fault| print_fault(fault, &mut print))
