@@ -9,8 +9,6 @@ mod listing;
 mod question;
 
 // How a question is written: the law, on a contract.
-pub fn question_layout() -> u8
+pub fn question_layout()
     ensures { QuestionLayout }
-{
-    0
-}
+{}

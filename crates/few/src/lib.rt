@@ -15,6 +15,7 @@ pub struct Few<T, const N: usize> {
     ghost within: { count ≤ N },
 }
 
+// By hand: a derive makes no `Clone` of a generic struct with ghost fields.
 impl<T: Copy, const N: usize> Copy for Few<T, N> {}
 
 impl<T: Copy, const N: usize> Clone for Few<T, N> {

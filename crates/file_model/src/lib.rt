@@ -68,7 +68,7 @@ fn blank_file() -> &'static [u8]
     &BLANK
 }
 
-// The model of a file, or the blank model where the file is refused.
+// The model of a file, or the blank model where the file is refused: a refused file has a model too, so no `Result`.
 #[derive(Drop)]
 pub struct FileModel<'a> {
     bytes: &'a [u8],

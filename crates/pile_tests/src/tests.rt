@@ -1,7 +1,7 @@
 // What the counter box, the layers and piles of them answer and refuse.
 use crate::still::Still;
 use counter_box::CounterBox;
-use fault::Fault;
+use fault::Cause;
 use layers::faults::{GoalCause, GoalFault, MirrorCause, MirrorFault};
 use layers::goal::Goal;
 use layers::marks::Marks;
@@ -37,17 +37,11 @@ fn fit_mirror(model: Still, column: usize) -> Result<(), MirrorFault> {
 }
 
 fn no_room(states: usize) -> Result<(), GoalFault> {
-    Err(Fault {
-        cause: GoalCause::Room,
-        place: states,
-    })
+    Err(GoalCause::Room.at(states))
 }
 
 fn wrong_mark(state: usize) -> Result<(), GoalFault> {
-    Err(Fault {
-        cause: GoalCause::Mark,
-        place: state,
-    })
+    Err(GoalCause::Mark.at(state))
 }
 
 fn same_branches<A: Model, B: Model>(rt: &impl Abort, a: &A, b: &B, state: usize, choice: usize) {
@@ -190,14 +184,8 @@ fn goal_names_the_lowest_wrong_mark(rt: HostRuntime) {
 
 #[test]
 fn mirror_refuses(rt: HostRuntime) {
-    let room = Fault {
-        cause: MirrorCause::Room,
-        place: 4,
-    };
-    let column = Fault {
-        cause: MirrorCause::Column,
-        place: 2,
-    };
+    let room = MirrorCause::Room.at(4);
+    let column = MirrorCause::Column.at(2);
     assert_eq!(rt; fit_mirror(Still::new(512, 4), 0), Err(room));
     assert_eq!(rt; fit_mirror(Still::new(512, 4), 4), Err(room));
     assert_eq!(rt; fit_mirror(Still::new(512, 2), 2), Err(column));
@@ -299,14 +287,8 @@ fn pile_that_is_full(rt: HostRuntime) {
 
 #[test]
 fn faults_are_written(rt: HostRuntime) -> Result<(), Fail> {
-    let goal = Fault {
-        cause: GoalCause::Room,
-        place: 300,
-    };
-    let mirror = Fault {
-        cause: MirrorCause::Column,
-        place: 2,
-    };
+    let goal = GoalCause::Room.at(300);
+    let mirror = MirrorCause::Column.at(2);
     assert_eq!(rt; goal.to_string(rt.alloc())?.as_str(), "goal 6 300");
     assert_eq!(rt; mirror.to_string(rt.alloc())?.as_str(), "mirror 7 2");
     Ok(())

@@ -9,15 +9,10 @@ use file_model::FileModel;
 use mdp::Model;
 use plans::{Objective, Row};
 use std::fs;
-use sweep::{MAX_OBJECTIVES, sweep};
+use sweep::sweep;
 
 // Two for each state of the largest model.
 const ROWS: usize = 1024;
-
-const NO_ROW: Row = Row {
-    ceiling: 0,
-    parts: [0; MAX_OBJECTIVES],
-};
 
 // A model file, and objectives with a weight for each.
 #[derive(Drop)]
@@ -63,7 +58,7 @@ fn show(rt: &HostRuntime, row: Row) -> anyhow::Result<()> {
 
 fn run_case(rt: &HostRuntime, case: &Case) -> anyhow::Result<()> {
     let model = FileModel::read(case.file);
-    let mut rows = [NO_ROW; ROWS];
+    let mut rows = [Row::ZERO; ROWS];
     let first = sweep::<FileModel, blend::Up, blend::Down>(
         &model,
         case.objectives.as_slice(),
