@@ -7,7 +7,8 @@ ghost use Rattle.fault.specs.Texts.{fault_text};
 use std::fmt;
 
 // The causes of one layer: each has a number, and the layer a word.
-// The numbers are an enum's discriminants, and each impl says so: a derive of the repository's own is refused.
+// The numbers are an enum's discriminants, and each impl says so by `as`: no `From` reads a discriminant, and a derive of
+// the repository's own is refused.
 pub trait Cause {
     ghost word: { List ℕ };
 

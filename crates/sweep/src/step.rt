@@ -97,7 +97,8 @@ impl<M: Model> Step<'_, '_, M> {
         earned_by(self.gains, branch.rewards)
     }
 
-    // The ceiling of the next state, with what the branch earns.
+    // The ceiling of the next state, with what the branch earns. A type for a branch of the model would hold the step as
+    // well, to say of which model: no plainer than the fact `Usual`.
     fn ceiling_after(&self, branch: WholeBranch) -> i64
         requires { Usual (length self.now.next.now) branch }
         ensures { result ≡ ceiling_after self.now (plain branch) }
