@@ -9,14 +9,12 @@ use byteorder::{LittleEndian, ReadBytesExt};
 use plans::Row;
 use std::fs;
 use std::io::Write;
+use text::MAX_TEXT;
 
 const OLD_ROW: Row = Row {
     ceiling: 7,
     parts: [7; 4],
 };
-
-// Room enough for a fault.
-const FAULT_BYTES: usize = 64;
 
 // A question about a model, the working rows that are lent for it, and the room to print.
 #[derive(Drop)]
@@ -73,7 +71,7 @@ fn run_case(rt: &HostRuntime, case: &Case) -> anyhow::Result<()> {
     ) {
         Ok(length) => show(rt, page.as_slice(), length),
         Err(fault) => {
-            let mut line = [0; FAULT_BYTES];
+            let mut line = [0; MAX_TEXT];
             let length = print_fault(fault, &mut line).unwrap_or(0);
             show(rt, &line, length)
         }

@@ -28,7 +28,7 @@ impl Cause for QuestionCause {
 }
 
 // A fault of any layer that a question reaches. Each has its own `From`: an enum of the causes alone would need one for each too.
-#[derive(Clone, Copy)]
+#[derive(Clone, Copy, PartialEq, Eq, Debug)]
 pub enum LayerFault {
     File(FileFault),
     Draft(DraftFault),
@@ -37,7 +37,7 @@ pub enum LayerFault {
 }
 
 // A fault, whole, beside the offset in the question where it arose.
-#[derive(Clone, Copy)]
+#[derive(Clone, Copy, PartialEq, Eq, Debug)]
 pub struct QuestionFault {
     pub offset: usize,
     pub fault: LayerFault,

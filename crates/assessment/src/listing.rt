@@ -80,6 +80,7 @@ pub(crate) fn list(verdict: Verdict, rows: &[TableRow]) -> Text
     text
 }
 
+// As `Fault` is displayed, byte by byte: `write!` promises its text only where it answers `Ok`, and nothing says when.
 fn push_fault<C: Cause + Drop>(text: &mut Text, fault: Fault<C>)
     ensures text { text_of text.new ≡ followed_by (text_of text.old) (fault_text C.Cause.word (C.Cause.numbered fault.cause) fault.place) }
     ensures number { C.Cause.numbered fault.cause < 256 }

@@ -6,13 +6,13 @@ use docket::docket::{Docket, Price};
 use docket::draft::Draft;
 use fault::{Cause, Fault};
 use file_model::FileModel;
-use mdp::Model;
+use mdp::{MAX_STATES, Model};
 use plans::{Objective, Row};
 use std::fs;
 use verdict::verdict::Verdict;
 
 // The working rows, of which a call is lent the first ones.
-const WORK: usize = 1024;
+const WORK: usize = 2 * MAX_STATES;
 
 const OLD_ROW: Row = Row {
     ceiling: 7,
@@ -188,6 +188,7 @@ fn make_call<M: Model>(
     let call = read_call(rt, line)?;
     let numbers = call.numbers.as_slice();
     print!(rt; "{line} -> ")?;
+    // A table of functions would say the same in another place.
     match call.word {
         "price" => make_price(rt, docket, numbers, work)?,
         "mix" => make_mix(rt, docket, numbers)?,

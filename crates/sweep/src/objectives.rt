@@ -22,7 +22,7 @@ pub(crate) fn is_counted(objective: Objective, step: usize) -> bool
     step < objective.bound
 }
 
-// The same, of an objective of a column.
+// Whether they do, and in a column.
 fn is_counted_in(objective: Objective, step: usize, column: usize) -> bool
     ensures { result ≡ (objective.column == column && counts objective step) }
 {

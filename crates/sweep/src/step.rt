@@ -28,6 +28,8 @@ fn gain_times(gain: u16, reward: i16) -> i64
     i64::from(gain) * i64::from(reward)
 }
 
+// The products are written out: a loop over the columns would be no shorter, and a bound would go with its sum. A model's
+// third and fourth columns mostly have no gain.
 fn earned_by(gains: [u16; MAX_COLUMNS], rewards: [i16; MAX_COLUMNS]) -> i64
     ensures { result ≡ earned gains rewards }
 {
@@ -97,8 +99,8 @@ impl<M: Model> Step<'_, '_, M> {
         earned_by(self.gains, branch.rewards)
     }
 
-    // The ceiling of the next state, with what the branch earns. A type for a branch of the model would hold the step as
-    // well, to say of which model: no plainer than the fact `Usual`.
+    // The ceiling of the next state, with what the branch earns. `Usual` says that its row is there: a type for a branch
+    // with its row would serve this method and the next alone.
     fn ceiling_after(&self, branch: WholeBranch) -> i64
         requires { Usual (length self.now.next.now) branch }
         ensures { result ≡ ceiling_after self.now (plain branch) }
@@ -156,7 +158,8 @@ impl<M: Model> Step<'_, '_, M> {
         }
     }
 
-    // By name: an array of running amounts is mapped only where their type is known to fit in memory, which no blend says.
+    // The parts by name: a map over an array of running amounts asks that the array fits in memory, and every blend would
+    // have to say so.
     fn choice_parts<D: Blend>(&self, state: usize, choice: usize) -> [i64; MAX_OBJECTIVES]
         ensures { result ≡ parts_of self.now D.Blend.mean state choice }
     {

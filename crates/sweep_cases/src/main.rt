@@ -6,13 +6,13 @@ ghost use Rattle.std.specs.Prelude.{◌<◌, length, OnOk};
 use anyhow::Context;
 use byteorder::{LittleEndian, ReadBytesExt};
 use file_model::FileModel;
-use mdp::Model;
+use mdp::{MAX_STATES, Model};
 use plans::{Objective, Row};
 use std::fs;
 use sweep::sweep;
 
 // Two for each state of the largest model.
-const ROWS: usize = 1024;
+const ROWS: usize = 2 * MAX_STATES;
 
 // A model file, and objectives with a weight for each.
 #[derive(Drop)]

@@ -30,7 +30,7 @@ impl Text {
         self.bytes.extend_from_slice(word.as_bytes());
     }
 
-    // The same of a number's digits, behind a sign where it is below zero.
+    // The decimal digits of a number, behind a sign where it is below zero; those that find no room are left out.
     pub fn push_number<I: Integer>(&mut self, number: I)
         ensures { text_of self.new ≡ followed_by (text_of self.old) (I.text number) }
     {
