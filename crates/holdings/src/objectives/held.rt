@@ -9,7 +9,7 @@ ghost use Rattle.holdings.specs.Refusals.{targets_refusal, weights_refusal};
 ghost use Rattle.holdings.specs.Views.{held};
 
 use crate::objectives::Objectives;
-use crate::sums::{get_or_zero, scaled, total};
+use crate::sums::{scaled, total};
 use fault::Cause;
 use few::Few;
 use plans::Objective;
@@ -102,9 +102,7 @@ impl Objectives {
         if !is_allowed(objective, columns) {
             return Err(DraftCause::Objective.at(number));
         }
-        let mut each = self.each;
-        each.push(objective).unwrap();
-        self.each = each;
+        self.each.push(objective).unwrap();
         Ok(number)
     }
 
@@ -138,10 +136,9 @@ impl Objectives {
     pub fn target_sum(&self, weights: &Weights) -> i64
         ensures { result ≡ target_sum (listed weights.now) (held self.now) }
     {
-        let numbers = weights.as_slice();
         let mut sum = 0;
-        for (i, objective) in self.as_slice().iter().enumerate() {
-            sum += scaled(get_or_zero(numbers, i), objective.target);
+        for (objective, weight) in self.as_slice().iter().zip(weights.as_slice()) {
+            sum += scaled(*weight, objective.target);
         }
         sum as i64
     }
