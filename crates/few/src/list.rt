@@ -24,7 +24,7 @@ impl<T: Copy, const N: usize> Few<T, N> {
     pub fn len(&self) -> usize
         ensures { result ≡ length (listed self.now) }
     {
-        self.as_slice().len()
+        self.count
     }
 
     // Puts one more item at the end, or hands it back where there is no room.

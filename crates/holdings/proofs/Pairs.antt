@@ -7,9 +7,11 @@ use Rattle.std.specs.List.{find, range_with_len}
 use Rattle.std.specs.Bool.{IsTrue}
 use Rattle.std.specs.Option.{MatchOption, IfSome, IsSomeAnd, option_map}
 use Rattle.std.specs.declared.ops.Range.{Range}
-use Rattle.std.specs.Iterator.Runs.{SomeRun, AllItemsGive, IsFirstToGive, CallKeepsClosure}
+use Rattle.std.specs.Iterator.Runs.{Run, ItemsCountUp, SomeRun, AllItemsGive, IsFirstToGive, CallKeepsClosure}
 use Rattle.std.proofs.iter.Yields.{nat_range_steps}
-use Rattle.std.proofs.iter.runs.Sources.{range_runs}
+use Rattle.std.specs.Range.{range_inclusive_start, range_inclusive_end, range_inclusive_exhausted}
+use Rattle.std.specs.declared.ops.RangeInclusive.{RangeInclusive}
+use Rattle.std.proofs.iter.runs.Sources.{range_runs, nat_range_inclusive_steps, inclusive_listed}
 use Rattle.std.proofs.lemmas.List.{take_all, length-set, length-replicate, length-take-le, get_or_past, get_or-take, get_or-set_same, get_or-set_other, get_or-replicate}
 use Rattle.std.proofs.lemmas.Bool.{cases_lt}
 use Rattle.std.proofs.lemmas.Bool.Decides.{nat_tests}
@@ -17,6 +19,7 @@ use Rattle.std.proofs.lemmas.List.FromFn.{fill_by_all, length-map-range_with_len
 use Rattle.plans.specs.Totals.{◌·◌, total}
 use Rattle.truth.specs.Dockets.{Priced, no_priced, part_sum, gathered, paired, pairings}
 use Rattle.truth.proofs.Pairs.{pair_whole}
+use Rattle.holdings.proofs.Rows.{total_zero}
 use Rattle.holdings.specs.Pairs.{shares_from, partner_shares}
 
 -- an array of 0s in which two places are set
@@ -35,13 +38,6 @@ sum_paired n r s a rising inside small = (pair_whole n (record { first = r; seco
 
 -- a sum in which only one or two of the weights are not 0
 module _ {X : Type 0} where
-  total_zero : (u : ℕ → ℕ) (f : ℕ → X → ℤ) (xs : List X) → ((j : ℕ) → u j ≡ 0) → total (λ j x. u j) f xs ≡ pos 0
-  total_zero u f [] z = refl
-  total_zero u f (x ∷ xs) z =
-      let a : u 0 · f 0 x ≡ pos 0 = ap (λ n. n · f 0 x) (z 0) ∙ zero-*ℤ (f 0 x) in
-      let r = total_zero (λ j. u (suc j)) (λ j. f (suc j)) xs (λ j. z (suc j)) in
-      omega (arith, same_in, same_out, sum_is_lem)
-
   total_one : (u : ℕ → ℕ) (f : ℕ → X → ℤ) (xs : List X) (s : ℕ) (d : X) → s < length xs → ((j : ℕ) → ¬ (j ≡ s) → u j ≡ 0) →
       total (λ j x. u j) f xs ≡ u s · f s (get_or xs s d)
   total_one u f [] s d l z = absurd (omega arith)
@@ -105,13 +101,6 @@ first_append : {X : Type 0} (p : X → Bool) (xs ys : List X) → find p (xs ++ 
 first_append p [] ys = refl
 first_append p (x ∷ xs) ys = elim (p x) as (λ b. cond b (Some x) (find p (xs ++ ys)) ≡ or_else (cond b (Some x) (find p xs)) (find p ys)) [ true ↦ refl | false ↦ first_append p xs ys ]
 
--- numbers from a up to m
-counting_more : (a m : ℕ) → a < m → range_with_len a (m - a) ≡ a ∷ range_with_len (a + 1) (m - (a + 1))
-counting_more a m h = let e : m - a ≡ suc (m - (a + 1)) = omega arith in ap (range_with_len a) e
-
-counting_none : (a m : ℕ) → m ≤ a → range_with_len a (m - a) ≡ []
-counting_none a m h = let e : m - a ≡ 0 = omega arith in ap (range_with_len a) e
-
 module _ {Y : Type 0} (p : Y → Bool) (f : ℕ → List Y) where
   none_gathered : (n a : ℕ) → ((k : ℕ) → k < n → None ≡ find p (f (a + k))) → None ≡ find p (gathered f (range_with_len a n))
   none_gathered zero a none = refl
@@ -142,39 +131,52 @@ module _ {Y : Type 0} (p : Y → Bool) (f : ℕ → List Y) where
   read None x e = cc
   read (Some y) x e = e
 
-  -- what `find_map` gives over numbers from a up to b, where each call gives the first of its list
+  -- what `find_map` gives over numbers that count up from a to b, where each call gives the first of its list
   module _ {F B : Type 0} (view : B → Y) {g : Mut F (ℕ × Unit {0}) (Option B)} {s : F} where
-    pub found_over : {a b : ℕ} (r : Option B) →
-        SomeRun nat_range_steps (record { start = a; end = b }) (λ q. MatchOption r (IsTrue q.whole × AllItemsGive q g s None) (λ y. (i : ℕ) × (i < q.len) × (q.len ≡ i + 1) × IsFirstToGive q g s (Some y) None i)) →
+    found_counted : {S : Type 0} {steps : S → Option ℕ → S → Type 0} {start : S} (a b : ℕ) → ((q : Run steps) → q.from ≡ start → ItemsCountUp q a b) → (r : Option B) →
+        SomeRun steps start (λ q. MatchOption r (IsTrue q.whole × AllItemsGive q g s None) (λ y. (i : ℕ) × (i < q.len) × (q.len ≡ i + 1) × IsFirstToGive q g s (Some y) None i)) →
         CallKeepsClosure g s → ((x : ℕ) (o : Option B) → Called g s (x, tt) o s → option_map view o ≡ find p (f x)) →
         option_map view r ≡ find p (gathered f (range_with_len a (b - a)))
-    found_over {a = a} {b = b} None runs keeps gives =
+    found_counted a b counts None runs keeps gives =
         let (q, start, m) = runs in
-        let up = range_runs q q.seen in
-        let e : q.len ≡ b - a = up.1 m.0 ∙ ap (λ (r : Range ℕ). r.end - r.start) start in
+        let up = counts q start in
+        let e : q.len ≡ b - a = up.1 m.0 in
         none_gathered (b - a) a (λ k l.
-        let at : q.at k ≡ Some (a + k) = read (q.at k) _ (up.3 k (omega arith)) ∙ ap (λ (r : Range ℕ). Some (r.start + k)) start in
+        let at : q.at k ≡ Some (a + k) = read (q.at k) _ (up.3 k (omega arith)) in
         gives (a + k) None (subst (λ o. IfSome o (λ x. Called g s (x, tt) None s)) at (m.1 keeps k)))
-    found_over {a = a} {b = b} (Some y) runs keeps gives =
+    found_counted a b counts (Some y) runs keeps gives =
         let (q, start, m) = runs in
-        let up = range_runs q q.seen in
+        let up = counts q start in
         let (i, l, _, first) = m in
         let h = first keeps in
-        let e : q.len ≤ b - a = subst (λ (r : Range ℕ). q.len ≤ r.end - r.start) start up.0 in
-        let at : (k : ℕ) → k < q.len → q.at k ≡ Some (a + k) = λ k below. read (q.at k) _ (up.3 k below) ∙ ap (λ (r : Range ℕ). Some (r.start + k)) start in
+        let e : q.len ≤ b - a = up.0 in
+        let at : (k : ℕ) → k < q.len → q.at k ≡ Some (a + k) = λ k below. read (q.at k) _ (up.3 k below) in
         first_gathered (b - a) a i (view y) (omega arith)
         (gives (a + i) (Some y) (subst (λ o. IsSomeAnd o (λ x. Called g s (x, tt) (Some y) s)) (at i l) h.0))
         (λ k below. gives (a + k) None (subst (λ o. IsSomeAnd o (λ x. Called g s (x, tt) None s)) (at k (omega arith)) (h.1 k below)))
 
-module _ (p : List ℕ → Bool) (n r s a : ℕ) where
-  pub shares_first : a < 1001 → p (paired n r s a) ≡ true → find p (shares_from n r s a) ≡ Some (paired n r s a)
-  unfolding shares_from
-  shares_first h e = ap (λ xs. find p (map (paired n r s) xs)) (counting_more a 1001 h) ∙ ap (λ b. cond b (Some (paired n r s a)) (find p (shares_from n r s (a + 1)))) e
+    -- over `a..b`
+    pub found_over : {a b : ℕ} (r : Option B) →
+        SomeRun nat_range_steps (record { start = a; end = b }) (λ q. MatchOption r (IsTrue q.whole × AllItemsGive q g s None) (λ y. (i : ℕ) × (i < q.len) × (q.len ≡ i + 1) × IsFirstToGive q g s (Some y) None i)) →
+        CallKeepsClosure g s → ((x : ℕ) (o : Option B) → Called g s (x, tt) o s → option_map view o ≡ find p (f x)) →
+        option_map view r ≡ find p (gathered f (range_with_len a (b - a)))
+    found_over {a = a} {b = b} = found_counted a b (λ q e. subst (λ (r : Range ℕ). ItemsCountUp q r.start r.end) e (range_runs q q.seen))
 
-  pub shares_next : a < 1001 → p (paired n r s a) ≡ false → find p (shares_from n r s a) ≡ find p (shares_from n r s (a + 1))
-  unfolding shares_from
-  shares_next h e = ap (λ xs. find p (map (paired n r s) xs)) (counting_more a 1001 h) ∙ ap (λ b. cond b (Some (paired n r s a)) (find p (shares_from n r s (a + 1)))) e
+    -- over `a..=b`
+    pub found_through : {a b : ℕ} {x : RangeInclusive ℕ} → range_inclusive_start x ≡ a → range_inclusive_end x ≡ b → range_inclusive_exhausted x ≡ false → (r : Option B) →
+        SomeRun nat_range_inclusive_steps x (λ q. MatchOption r (IsTrue q.whole × AllItemsGive q g s None) (λ y. (i : ℕ) × (i < q.len) × (q.len ≡ i + 1) × IsFirstToGive q g s (Some y) None i)) →
+        CallKeepsClosure g s → ((x : ℕ) (o : Option B) → Called g s (x, tt) o s → option_map view o ≡ find p (f x)) →
+        option_map view r ≡ find p (gathered f (range_with_len a (b + 1 - a)))
+    found_through {a = a} {b = b} low high fresh = found_counted a (b + 1) (λ q e.
+        let (c, d, ec, ed, up) = inclusive_listed q q.seen in
+        subst (λ k. ItemsCountUp q k (b + 1)) (ec ∙ ap range_inclusive_start e ∙ low)
+        (subst (λ k. ItemsCountUp q c k) (ed ∙ ap (λ y. range_inclusive_end y + 1) e ∙ ap (λ k. k + 1) high) (up (ap range_inclusive_exhausted e ∙ fresh)).0))
 
-  pub shares_none : 1001 ≤ a → find p (shares_from n r s a) ≡ None
-  unfolding shares_from
-  shares_none h = ap (λ xs. find p (map (paired n r s) xs)) (counting_none a 1001 h)
+-- lists of one
+gathered_each : {X Y : Type 0} (f : X → Y) (xs : List X) → gathered (λ x. f x ∷ []) xs ≡ map f xs
+gathered_each f [] = refl
+gathered_each f (x ∷ xs) = ap (λ ys. f x ∷ ys) (gathered_each f xs)
+
+pub shares_from_are : (n r s : ℕ) → gathered (λ a. paired n r s a ∷ []) (range_with_len 0 (1000 + 1 - 0)) ≡ shares_from n r s 0
+unfolding shares_from
+shares_from_are n r s = gathered_each (paired n r s) (range_with_len 0 1001)

@@ -1,6 +1,7 @@
 -- The rows of a table, and a sum's next element. Assumes nothing.
-use Rattle.std.proofs.Common.{◌≡◌, ℕ, zero, suc, ◌+◌, ◌<◌, ◌≤◌, List, [], ◌∷◌, map, length, get_or, take, ℤ, pos, ◌+ℤ◌, Bool, None, cond, not, refl, ap, arith}
+use Rattle.std.proofs.Common.{◌≡◌, ℕ, zero, suc, ◌+◌, ◌<◌, ◌≤◌, List, [], ◌∷◌, map, length, get_or, take, ℤ, pos, ◌+ℤ◌, Bool, None, cond, not, sym, refl, ap, ◌∙◌, arith}
 use borrow.Author.Differences.{same_in, same_out, sum_is_lem}
+use lib.IntN.{zero-*ℤ}
 use Rattle.std.specs.List.{position, position_or_len}
 use Rattle.std.proofs.lemmas.List.{get_or-map, length-map}
 use Rattle.std.proofs.lemmas.List.Sums.{prefix_len-le-length}
@@ -41,3 +42,19 @@ total_more u f (x ∷ xs) (suc k) d h =
     let r = total_more (λ j. u (suc j)) (λ j. f (suc j)) xs k d (omega arith) in
     let n : suc k + 1 ≡ suc (k + 1) = omega arith in
     rw n (omega (arith, same_in, same_out, sum_is_lem))
+
+-- a sum in which no weight is other than 0, and one in which none past the first k is
+pub total_zero : {X : Type 0} (u : ℕ → ℕ) (f : ℕ → X → ℤ) (xs : List X) → ((j : ℕ) → u j ≡ 0) → total (λ j x. u j) f xs ≡ pos 0
+total_zero u f [] z = refl
+total_zero u f (x ∷ xs) z =
+    let a : u 0 · f 0 x ≡ pos 0 = ap (λ n. n · f 0 x) (z 0) ∙ zero-*ℤ (f 0 x) in
+    let r = total_zero (λ j. u (suc j)) (λ j. f (suc j)) xs (λ j. z (suc j)) in
+    omega (arith, same_in, same_out, sum_is_lem)
+
+pub total_take : {X : Type 0} (u : ℕ → ℕ) (f : ℕ → X → ℤ) (xs : List X) (k : ℕ) → ((j : ℕ) → k ≤ j → u j ≡ 0) → total (λ j x. u j) f (take k xs) ≡ total (λ j x. u j) f xs
+total_take u f [] zero z = refl
+total_take u f [] (suc k) z = refl
+total_take u f (x ∷ xs) zero z = sym (total_zero u f (x ∷ xs) (λ j. z j (omega arith)))
+total_take u f (x ∷ xs) (suc k) z =
+    let r = total_take (λ j. u (suc j)) (λ j. f (suc j)) xs k (λ j h. z (suc j) (omega arith)) in
+    omega (arith, same_in, same_out, sum_is_lem)

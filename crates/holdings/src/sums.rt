@@ -1,5 +1,5 @@
 // Sums of a few numbers.
-ghost use Rattle.std.specs.Prelude.{◌≡◌, ◌^◌, ◌≤◌, length, sum, slice_index, unsigned_abs};
+ghost use Rattle.std.specs.Prelude.{◌≡◌, ◌^◌, ◌≤◌, length, sum, unsigned_abs};
 ghost use Rattle.plans.specs.Totals.{◌·◌};
 
 // A number of times an amount in grains.
@@ -16,11 +16,4 @@ pub(crate) fn total(numbers: &[u16]) -> usize
     ensures { result ≡ sum numbers.now }
 {
     numbers.iter().map(|number| usize::from(*number)).sum()
-}
-
-// A number by its place, and 0 past the end.
-pub(crate) fn get_or_zero(numbers: &[u16], place: usize) -> u16
-    ensures { result ≡ slice_index numbers.now place }
-{
-    numbers.get(place).copied().unwrap_or(0)
 }

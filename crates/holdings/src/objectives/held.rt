@@ -9,19 +9,13 @@ ghost use Rattle.holdings.specs.Refusals.{targets_refusal, weights_refusal};
 ghost use Rattle.holdings.specs.Views.{held};
 
 use crate::objectives::Objectives;
-use crate::sums::{get_or_zero, scaled, total};
+use crate::sums::{scaled, total};
 use fault::Cause;
 use few::Few;
 use plans::Objective;
 use verdict::faults::{DocketCause, DocketFault, DraftCause, DraftFault};
 use verdict::limits::{MAX_BOUND, MAX_OBJECTIVES, MAX_TARGET, MAX_WEIGHT};
 use verdict::verdict::Weights;
-
-const BLANK: Objective = Objective {
-    column: 0,
-    bound: 0,
-    target: 0,
-};
 
 fn is_target(target: i64) -> bool
     ensures { result ≡ small_target target }
@@ -39,14 +33,14 @@ fn is_allowed(objective: Objective, columns: usize) -> bool
 }
 
 // The number of the first target that is not within the limits.
-fn find_target(targets: &[i64]) -> Option<usize>
+fn find_wrong_target(targets: &[i64]) -> Option<usize>
     ensures { result ≡ position (λ t. not (small_target t)) targets.now }
 {
     targets.iter().position(|target| !is_target(*target))
 }
 
 // The number of the first weight that is not within the limit.
-fn find_weight(weights: &[u16]) -> Option<usize>
+fn find_wrong_weight(weights: &[u16]) -> Option<usize>
     ensures { result ≡ position (λ w. nat_lt 1000 w) weights.now }
 {
     weights.iter().position(|weight| *weight > MAX_WEIGHT)
@@ -58,7 +52,7 @@ fn check_targets(count: usize, targets: &[i64]) -> Result<(), DocketFault>
     if targets.len() != count {
         return Err(DocketCause::Targets.at(targets.len()));
     }
-    match find_target(targets) {
+    match find_wrong_target(targets) {
         Some(place) => Err(DocketCause::Targets.at(place)),
         None => Ok(()),
     }
@@ -70,7 +64,7 @@ fn aim(objectives: &[Objective], targets: &[i64]) -> Few<Objective, MAX_OBJECTIV
     requires each { length targets.now ≡ length objectives.now }
     ensures { listed result ≡ each_by (aimed targets.now) objectives.now }
 {
-    let mut each = Few::empty(BLANK);
+    let mut each = Few::empty(Objective::ZERO);
     for (objective, target) in objectives.iter().zip(targets) {
         let aimed = Objective {
             target: *target,
@@ -86,7 +80,7 @@ impl Objectives {
         ensures { held result ≡ [] }
     {
         Objectives {
-            each: Few::empty(BLANK),
+            each: Few::empty(Objective::ZERO),
         }
     }
 
@@ -108,9 +102,7 @@ impl Objectives {
         if !is_allowed(objective, columns) {
             return Err(DraftCause::Objective.at(number));
         }
-        let mut each = self.each;
-        each.push(objective).unwrap();
-        self.each = each;
+        self.each.push(objective).unwrap();
         Ok(number)
     }
 
@@ -131,7 +123,7 @@ impl Objectives {
         if weights.len() != self.each.len() {
             return Err(DocketCause::Weights.at(weights.len()));
         }
-        if let Some(place) = find_weight(weights) {
+        if let Some(place) = find_wrong_weight(weights) {
             return Err(DocketCause::Weights.at(place));
         }
         if total(weights) == 0 {
@@ -144,10 +136,9 @@ impl Objectives {
     pub fn target_sum(&self, weights: &Weights) -> i64
         ensures { result ≡ target_sum (listed weights.now) (held self.now) }
     {
-        let numbers = weights.as_slice();
         let mut sum = 0;
-        for (i, objective) in self.as_slice().iter().enumerate() {
-            sum += scaled(get_or_zero(numbers, i), objective.target);
+        for (objective, weight) in self.as_slice().iter().zip(weights.as_slice()) {
+            sum += scaled(*weight, objective.target);
         }
         sum as i64
     }

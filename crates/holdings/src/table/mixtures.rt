@@ -35,7 +35,7 @@ pub(super) trait Mixture {
         ensures { result ≡ suffice (held objectives.now) (table self.now) (shares self.now) }
     {
         let together = self.together();
-        // (tried as a chain that ends in `all`: its proof did not close)
+        // Tried as a chain that ends in `all`: its proof did not close.
         for (part, objective) in objectives.as_slice().iter().enumerate() {
             if self.part_sum(part) < scaled(together, objective.target) {
                 return false;

@@ -1,5 +1,5 @@
 // Mixtures of two rows.
-ghost use Rattle.std.specs.Prelude.{◌≡◌, ◌<◌, ◌≤◌, map, length, find};
+ghost use Rattle.std.specs.Prelude.{◌≡◌, ◌<◌, ◌≤◌, [], ◌∷◌, map, length, find};
 ghost use Rattle.std.specs.Option.{option_map};
 ghost use Rattle.truth.specs.Dockets.{suffice, paired, pairings};
 ghost use Rattle.few.specs.Views.{listed};
@@ -53,31 +53,42 @@ impl<'a> Pair<'a> {
     }
 }
 
-// The first shares of two rows that bring every target.
-fn find_share(
-    rows: &[TableRow],
-    objectives: &Objectives,
+// Two rows, one before the other.
+#[derive(Drop)]
+struct Partners<'a> {
+    rows: &'a [TableRow],
     first: usize,
     second: usize,
-) -> Option<Shares>
-    requires few { length rows.now ≤ 16 }
-    requires rising { first < second }
-    requires inside { second < length rows.now }
-    ensures { option_map listed result ≡ find (suffice (held objectives.now) (map row_of rows.now)) (shares_from (length rows.now) first second 0) }
-{
-    // (tried as `find_map`: a closure that makes the pair has no proof of the pair's facts)
-    for share in 0..=1000 {
+    ghost few: { length rows.now ≤ 16 },
+    ghost rising: { first < second },
+    ghost inside: { second < length rows.now },
+}
+
+impl<'a> Partners<'a> {
+    // The shares with some share of the first, where they bring every target.
+    fn try_share(&self, objectives: &Objectives, share: u16) -> Option<Shares>
+        requires small { share ≤ 1000 }
+        ensures { option_map listed result ≡ find (suffice (held objectives.now) (map row_of self.now.rows.now)) (paired (length self.now.rows.now) self.now.first self.now.second share ∷ []) }
+    {
         let pair = Pair {
-            rows,
-            first,
-            second,
+            rows: self.rows,
+            first: self.first,
+            second: self.second,
             share,
         };
         if pair.is_enough(objectives) {
-            return Some(pair.shares());
+            Some(pair.shares())
+        } else {
+            None
         }
     }
-    None
+
+    // The first shares of the two that bring every target.
+    fn find_share(&self, objectives: &Objectives) -> Option<Shares>
+        ensures { option_map listed result ≡ find (suffice (held objectives.now) (map row_of self.now.rows.now)) (shares_from (length self.now.rows.now) self.now.first self.now.second 0) }
+    {
+        (0..=1000).find_map(|share| self.try_share(objectives, share))
+    }
 }
 
 // The first shares of a row and a later one that bring every target.
@@ -86,7 +97,20 @@ fn find_partner(rows: &[TableRow], objectives: &Objectives, first: usize) -> Opt
     requires inside { first < length rows.now }
     ensures { option_map listed result ≡ find (suffice (held objectives.now) (map row_of rows.now)) (partner_shares (length rows.now) first) }
 {
-    (first + 1..rows.len()).find_map(|second| find_share(rows, objectives, first, second))
+    (first + 1..rows.len()).find_map(
+        |second|
+            requires few { length rows.now ≤ 16 }
+            requires rising { first < second }
+            requires inside { second < length rows.now }
+        {
+            let partners = Partners {
+                rows,
+                first,
+                second,
+            };
+            partners.find_share(objectives)
+        },
+    )
 }
 
 impl RowTable {

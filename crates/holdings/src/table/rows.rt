@@ -77,11 +77,10 @@ impl RowTable {
         if shares.len() != self.rows.len() {
             return Err(DocketCause::Shares.at(shares.len()));
         }
-        let together = total(shares);
-        if !(1..=MAX_SHARES).contains(&together) {
-            return Err(DocketCause::Shares.at(0));
+        match u16::try_from(total(shares)) {
+            Ok(together) if (1..=MAX_SHARES).contains(&usize::from(together)) => Ok(together),
+            _ => Err(DocketCause::Shares.at(0)),
         }
-        Ok(together as u16)
     }
 
     // Whether shares, one for each row and together from 1 to 1000, bring every target.

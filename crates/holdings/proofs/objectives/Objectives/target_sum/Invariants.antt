@@ -1,6 +1,10 @@
-use Rattle.std.proofs.Common.{◌≡◌, ◌*◌, ◌^◌, ◌≤◌, take, nat_abs}
+use Rattle.std.proofs.Common.{◌≡◌, ◌*◌, ◌^◌, ◌≤◌, length, take, nat_abs}
 use Rattle.plans.specs.Plans.{target_sum}
+use Rattle.few.specs.Views.{listed}
+use Rattle.holdings.specs.Views.{held}
 use Rattle.holdings.proofs.objectives.Objectives.target_sum.Given as goal
 
-abbrev pub invariant-loop-i : goal.invariant-loop-i
-invariant-loop-i l = (l.sum ≡ target_sum l.numbers (take l.i l.objective-items)) × (nat_abs l.sum ≤ l.i * 2 ^ 56)
+abbrev pub invariant-loop-objective : goal.invariant-loop-objective
+invariant-loop-objective l =
+    let k = length l.yielded in
+    (l.sum ≡ target_sum (listed l.weights) (take k (held l.self))) × (nat_abs l.sum ≤ k * 2 ^ 56)
