@@ -65,7 +65,7 @@ fn check_header(bytes: &[u8]) -> Result<Header, FileFault>
 }
 
 // Where the pair of a state stands.
-fn pair_place(state: u16) -> usize
+pub fn pair_place(state: u16) -> usize
     ensures { result ≡ pair_place state }
 {
     8 + 4 * usize::from(state)
