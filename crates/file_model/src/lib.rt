@@ -16,7 +16,7 @@ ghost use Rattle.file_check.proofs.Accepted.{file_facts};
 ghost use Rattle.file_model.specs.Index.{Indexed, Whole, blank_bytes, starts_of, branch_there, all_rewards, whole};
 
 use few::Few;
-use file_check::check::{branch_size, check};
+use file_check::check::{branch_size, check, pair_place};
 use file_check::faults::FileFault;
 use mdp::{MAX_CHOICES, MAX_COLUMNS, MAX_STATES, Model as DecisionModel, WholeBranch};
 use std::array;
@@ -50,11 +50,13 @@ fn index_file(bytes: &[u8]) -> Few<Starts, MAX_STATES>
     ensures { Indexed bytes.now (listed result) }
 {
     let mut index = Few::empty(Few::empty(0));
-    for state in 0..usize::from(word_at(bytes, 0)) {
-        let pair = 8 + 4 * state;
+    for state in 0..word_at(bytes, 0) {
+        let pair = pair_place(state);
         let from = usize::from(word_at(bytes, pair));
         let end = from + usize::from(word_at(bytes, pair + 2));
-        let _ = index.push(index_choices(bytes, bytes[6], from, end));
+        index
+            .push(index_choices(bytes, bytes[6], from, end))
+            .unwrap();
     }
     index
 }
