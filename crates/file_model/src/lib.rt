@@ -24,7 +24,9 @@ use std::array;
 // Where the choices of a state stand.
 type Starts = Few<u16, MAX_CHOICES>;
 
-// The number in the two bytes at an offset. As in `file_check`: a public function could not require the bytes to be there.
+// The number in the two bytes at an offset.
+// `file_check` has its own: a public function may not require the bytes to be there.
+// `byteorder` reads the same from `&bytes[at..]`, which is no plainer.
 fn word_at(bytes: &[u8], at: usize) -> u16
     requires { at + 1 < length bytes.now }
     ensures { result ≡ word bytes.now at }
@@ -38,6 +40,7 @@ fn index_choices(bytes: &[u8], columns: u8, from: usize, end: usize) -> Starts
 {
     let mut starts = Few::empty(0);
     let mut at = from;
+    // `as` loses nothing: the proof has the bound, where `try_from` would need an `unwrap`.
     while at < end && starts.push(at as u16).is_ok() {
         at += 1 + usize::from(bytes[at]) * branch_size(columns);
     }
