@@ -22,6 +22,8 @@ struct Header {
 }
 
 // The number in the two bytes at an offset.
+// `file_model` has its own: a public function may not require the bytes to be there.
+// `byteorder` reads the same from `&bytes[at..]`, which is no plainer.
 fn word_at(bytes: &[u8], at: usize) -> u16
     requires { at + 1 < length bytes.now }
     ensures { result ≡ word bytes.now at }
@@ -65,7 +67,7 @@ fn check_header(bytes: &[u8]) -> Result<Header, FileFault>
 }
 
 // Where the pair of a state stands.
-fn pair_place(state: u16) -> usize
+pub fn pair_place(state: u16) -> usize
     ensures { result ≡ pair_place state }
 {
     8 + 4 * usize::from(state)
@@ -95,6 +97,8 @@ struct Block<'a> {
     ghost short: { end < 2 ^ 16 },
 }
 
+// The parts are counted, since their places follow from their numbers: `chunks_exact` would lend the bytes of each, but a
+// fault wants the place.
 impl Block<'_> {
     // The field of two bytes at an offset.
     fn field(&self, at: usize) -> Result<u16, FileFault>
@@ -191,6 +195,7 @@ struct File<'a> {
     ghost short: { length bytes.now < 2 ^ 16 },
 }
 
+// The states are counted for the same reason.
 impl File<'_> {
     // Where the block that a state's pair names begins and ends.
     fn block(&self, state: u16) -> Range<usize>

@@ -32,11 +32,15 @@ module _ (xs : List ℕ) (c e p : ℕ) where
   starts_pushed n q ys zs all h b z k a =
       rw (z, length-append ys (p ∷ []), k) (a ∙ (ap (λ t. ys ++ t) (starts_more n (length ys) h b) ∙ sym (append_assoc ys (p ∷ []) _)))
 
-pub index_pushed : (xs : List ℕ) (index more : List (Few ℕ max_choices)) (s : ℕ) (starts : Few ℕ max_choices) → s < max_states
-    → more ≡ (if nat_lt (length index) max_states then index ++ (starts ∷ []) else index) → listed starts ≡ choice_starts xs s
-    → map listed index ≡ map (choice_starts xs) (range_with_len 0 s) → map listed more ≡ map (choice_starts xs) (range_with_len 0 (s + 1))
-index_pushed xs index more s starts h m e a =
-    let long : length index ≡ s = sym (length-map index listed) ∙ (ap length a ∙ length-map-range_with_len (choice_starts xs) 0 s) in
-    let room : length index < max_states = omega arith in
-    let all : more ≡ index ++ (starts ∷ []) = m ∙ cond-true _ _ _ (lt-ltb _ _ room) in
-    rw (all, map_push listed index starts, e, a) (sym (map-range_with_len_more (choice_starts xs) 0 s s (zero-add s)))
+module _ (xs : List ℕ) (index : List (Few ℕ max_choices)) (s : ℕ) (h : s < max_states) (a : map listed index ≡ map (choice_starts xs) (range_with_len 0 s)) where
+  -- there is room for one more state
+  pub index_room : length index < max_states
+  index_room =
+      let long : length index ≡ s = sym (length-map index listed) ∙ (ap length a ∙ length-map-range_with_len (choice_starts xs) 0 s) in
+      omega arith
+
+  pub index_pushed : (more : List (Few ℕ max_choices)) (starts : Few ℕ max_choices) → more ≡ (if nat_lt (length index) max_states then index ++ (starts ∷ []) else index)
+      → listed starts ≡ choice_starts xs s → map listed more ≡ map (choice_starts xs) (range_with_len 0 (s + 1))
+  index_pushed more starts m e =
+      let all : more ≡ index ++ (starts ∷ []) = m ∙ cond-true _ _ _ (lt-ltb _ _ index_room) in
+      rw (all, map_push listed index starts, e, a) (sym (map-range_with_len_more (choice_starts xs) 0 s s (zero-add s)))

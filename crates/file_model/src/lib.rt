@@ -16,7 +16,7 @@ ghost use Rattle.file_check.proofs.Accepted.{file_facts};
 ghost use Rattle.file_model.specs.Index.{Indexed, Whole, blank_bytes, starts_of, branch_there, all_rewards, whole};
 
 use few::Few;
-use file_check::check::{branch_size, check};
+use file_check::check::{branch_size, check, pair_place};
 use file_check::faults::FileFault;
 use mdp::{MAX_CHOICES, MAX_COLUMNS, MAX_STATES, Model as DecisionModel, WholeBranch};
 use std::array;
@@ -24,7 +24,9 @@ use std::array;
 // Where the choices of a state stand.
 type Starts = Few<u16, MAX_CHOICES>;
 
-// The number in the two bytes at an offset. As in `file_check`: a public function could not require the bytes to be there.
+// The number in the two bytes at an offset.
+// `file_check` has its own: a public function may not require the bytes to be there.
+// `byteorder` reads the same from `&bytes[at..]`, which is no plainer.
 fn word_at(bytes: &[u8], at: usize) -> u16
     requires { at + 1 < length bytes.now }
     ensures { result ≡ word bytes.now at }
@@ -38,6 +40,7 @@ fn index_choices(bytes: &[u8], columns: u8, from: usize, end: usize) -> Starts
 {
     let mut starts = Few::empty(0);
     let mut at = from;
+    // `as` loses nothing: the proof has the bound, where `try_from` would need an `unwrap`.
     while at < end && starts.push(at as u16).is_ok() {
         at += 1 + usize::from(bytes[at]) * branch_size(columns);
     }
@@ -50,11 +53,13 @@ fn index_file(bytes: &[u8]) -> Few<Starts, MAX_STATES>
     ensures { Indexed bytes.now (listed result) }
 {
     let mut index = Few::empty(Few::empty(0));
-    for state in 0..usize::from(word_at(bytes, 0)) {
-        let pair = 8 + 4 * state;
+    for state in 0..word_at(bytes, 0) {
+        let pair = pair_place(state);
         let from = usize::from(word_at(bytes, pair));
         let end = from + usize::from(word_at(bytes, pair + 2));
-        let _ = index.push(index_choices(bytes, bytes[6], from, end));
+        index
+            .push(index_choices(bytes, bytes[6], from, end))
+            .unwrap();
     }
     index
 }

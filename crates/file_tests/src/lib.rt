@@ -3,7 +3,8 @@
 
 #[cfg(test)]
 mod tests {
-    use file_check::faults::{FileCause, FileFault};
+    use fault::Cause;
+    use file_check::faults::FileCause;
     use file_model::FileModel;
     use mdp::{Model, WholeBranch};
 
@@ -83,13 +84,7 @@ mod tests {
     #[test]
     fn refused_is_blank(rt: HostRuntime) {
         let model = FileModel::read(&TWO_STATES[0..42]);
-        assert_eq!(rt;
-            model.fault(),
-            Some(FileFault {
-                cause: FileCause::Pair,
-                place: 12,
-            })
-        );
+        assert_eq!(rt; model.fault(), Some(FileCause::Pair.at(12)));
         assert_eq!(rt; model.states(), 1);
         assert_eq!(rt; model.first(), 0);
         assert_eq!(rt; model.divisor(), 1);
