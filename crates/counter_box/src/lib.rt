@@ -59,7 +59,8 @@ impl CounterBox {
     }
 }
 
-// A branch with what it earns in openings and costs in exposure.
+// A branch with what it earns in openings and costs in exposure. The proof has the bound of `as i16`, where `try_from`
+// would need an `unwrap`.
 fn outcome(weight: u16, next: usize, opened: u8, exposed: usize) -> WholeBranch
     requires { exposed ≤ max_limit }
     ensures { result ≡ whole_of (box_branch weight next opened exposed) }

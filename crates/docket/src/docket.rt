@@ -18,7 +18,8 @@ mod settling;
 
 pub use pricing::Price;
 
-// It came of a draft by calls, so that what its verdict shows is true of the model.
+// It came of a draft by calls, so that what its verdict shows is true of the model. Each call says that the model is as it
+// was: the field is private, and no type says so for them.
 #[derive(Drop)]
 pub struct Docket<M: Model> {
     model: M,

@@ -44,6 +44,7 @@ fn wrong_mark(state: usize) -> Result<(), GoalFault> {
     Err(GoalCause::Mark.at(state))
 }
 
+// A model is asked by number, here also past the last.
 fn same_branches<A: Model, B: Model>(rt: &impl Abort, a: &A, b: &B, state: usize, choice: usize) {
     assert_eq!(rt; a.branches(state, choice), b.branches(state, choice));
     for branch in 0..4 {

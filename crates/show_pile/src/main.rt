@@ -28,6 +28,7 @@ fn make_pile() -> Pile {
     goal
 }
 
+// A model is asked by number and lends no slice: its states, choices and branches are counted.
 fn show_choice<M: Model>(
     rt: &impl Print,
     model: &M,

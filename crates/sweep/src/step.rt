@@ -77,6 +77,7 @@ pub(crate) struct Step<'a, 'b, M: Model> {
 impl<M: Model> Step<'_, '_, M> {
     ghost use Rattle.sweep.specs.Made.{choice_of, ceiling_after, part_after, ceiling_of, parts_of, best_of, row_of};
 
+    // A model is asked by number and lends no slice: its choices and branches are counted.
     fn branch_count(&self, state: usize, choice: usize) -> usize
         ensures { result ≡ length (choice_of self.now state choice) }
     {

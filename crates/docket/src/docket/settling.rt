@@ -43,7 +43,7 @@ impl<'a, M: Model> Settling<'a, M> {
         target <= price.point[0]
     }
 
-    // Halves the weights between those that bring the first target and those that do not.
+    // Halves the weights between those that bring the first target and those that do not; each follows from the one before.
     fn bisect(&mut self)
         requires room { Room (stage self.old) (length (bisections (stage self.old))) }
         ensures { stage self.new ≡ after_prices (stage self.old) (bisections (stage self.old)) }

@@ -140,6 +140,7 @@ impl Objectives {
         for (objective, weight) in self.as_slice().iter().zip(weights.as_slice()) {
             sum += scaled(*weight, objective.target);
         }
+        // The proof has the bound; `try_from` would need an `unwrap`.
         sum as i64
     }
 }
