@@ -19,10 +19,10 @@ use verdict::verdict::Verdict;
 fn push_line(text: &mut Text, first: u16, rest: &[u16])
     ensures { text_of text.new ≡ followed_by (text_of text.old) (line (spaced (first ∷ rest.now))) }
 {
-    text.push_number(first);
+    text.push_decimal(u64::from(first));
     for number in rest {
         text.push_str(" ");
-        text.push_number(*number);
+        text.push_decimal(u64::from(*number));
     }
     text.push_str("\n");
 }
@@ -71,9 +71,9 @@ pub(crate) fn list(verdict: Verdict, rows: &[TableRow]) -> Text
         } => {
             text.push_str("refuted\n");
             push_weights(&mut text, weights.as_slice());
-            text.push_number(ceiling);
+            text.push_signed(ceiling);
             text.push_str(" ");
-            text.push_number(target_sum);
+            text.push_signed(target_sum);
             text.push_str("\n");
         }
     }
@@ -87,9 +87,9 @@ fn push_fault<C: Cause + Drop>(text: &mut Text, fault: Fault<C>)
 {
     text.push_str(C::layer());
     text.push_str(" ");
-    text.push_number(fault.cause.number());
+    text.push_decimal(u64::from(fault.cause.number()));
     text.push_str(" ");
-    text.push_number(fault.place);
+    text.push_decimal(fault.place as u64);
 }
 
 pub(crate) fn list_fault(fault: QuestionFault) -> Text
@@ -97,7 +97,7 @@ pub(crate) fn list_fault(fault: QuestionFault) -> Text
 {
     let mut text = Text::new();
     text.push_str("fault ");
-    text.push_number(fault.offset);
+    text.push_decimal(fault.offset as u64);
     text.push_str(" ");
     match fault.fault {
         LayerFault::File(fault) => push_fault(&mut text, fault),

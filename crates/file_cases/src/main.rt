@@ -4,7 +4,6 @@
 ghost use Rattle.std.specs.Prelude.{◌<◌, length, OnOk};
 
 use anyhow::Context;
-use byteorder::{LittleEndian, ReadBytesExt};
 use file_check::check::check;
 use std::fs;
 
@@ -12,11 +11,12 @@ use std::fs;
 fn read_case<'a>(cases: &mut &'a [u8]) -> anyhow::Result<(&'a str, &'a [u8])>
     ensures { OnOk result (length cases.new.now < length cases.old.now) }
 {
-    let size = cases.read_u8()?;
+    let size = cases.split_off_first().context("no case")?;
     let name = cases
-        .split_off(..usize::from(size))
+        .split_off(..usize::from(*size))
         .context("cases.bin is cut")?;
-    let size = cases.read_u32::<LittleEndian>()?;
+    let size = cases.split_off(..4).context("no size of a file")?;
+    let size = u32::from_le_bytes(size.try_into()?);
     let file = cases
         .split_off(..usize::try_from(size)?)
         .context("cases.bin is cut")?;

@@ -102,16 +102,18 @@ struct Block<'a> {
 impl Block<'_> {
     // The field of two bytes at an offset.
     fn field(&self, at: usize) -> Result<u16, FileFault>
+        requires { at < 2 ^ 20 }
         ensures answer { result ≡ field_at self.now.bytes.now self.now.end at }
         ensures inside { OnOk result (at + 2 ≤ self.now.end) }
     {
-        if self.end.saturating_sub(at) < 2 {
+        if self.end < at + 2 {
             return Err(FileCause::Field.at(self.end));
         }
         Ok(word_at(self.bytes, at))
     }
 
     fn check_rewards(&self, from: usize) -> Result<(), FileFault>
+        requires { from < 2 ^ 19 }
         ensures { result ≡ rewards_at self.now.bytes.now self.now.end from self.now.header.columns }
     {
         for i in 0..usize::from(self.header.columns) {
@@ -126,6 +128,7 @@ impl Block<'_> {
 
     // The weight of the branch at an offset.
     fn check_branch(&self, at: usize) -> Result<u16, FileFault>
+        requires { at < 2 ^ 18 }
         ensures { result ≡ branch_at self.now.bytes.now self.now.header self.now.end at }
     {
         let weight = self.field(at)?;

@@ -1,3 +1,4 @@
 pub mod Extended
+pub mod Fitted
 pub mod Halves
 pub mod Negated

@@ -1,15 +1,14 @@
 // The rows of many sweeps over model files.
 #![tactic(auto)]
 
-ghost use Rattle.std.specs.Prelude.{◌<◌, length, OnOk};
+ghost use Rattle.std.specs.Prelude.{◌<◌, length, OnOk, OnSome};
 
-use anyhow::Context;
-use byteorder::{LittleEndian, ReadBytesExt};
+use anyhow::{Context, ensure};
 use file_model::FileModel;
 use mdp::{MAX_STATES, Model};
 use plans::{Objective, Row};
 use std::fs;
-use sweep::sweep;
+use sweep::{MAX_OBJECTIVES, sweep};
 
 // Two for each state of the largest model.
 const ROWS: usize = 2 * MAX_STATES;
@@ -22,23 +21,47 @@ struct Case<'a> {
     weights: Vec<u16>,
 }
 
+// Takes a number of two bytes off the cases, or nothing where they are cut.
+fn read_word(cases: &mut &[u8]) -> Option<u16>
+    ensures { OnSome result (length cases.new.now < length cases.old.now) }
+{
+    let word = cases.split_off(..2)?;
+    Some(u16::from_le_bytes(word.try_into().ok()?))
+}
+
+// Takes a model file and the number of objectives off them.
+fn read_head<'a>(cases: &mut &'a [u8]) -> Option<(&'a [u8], u8)>
+    ensures { OnSome result (length cases.new.now < length cases.old.now) }
+{
+    let size = read_word(cases)?;
+    let file = cases.split_off(..usize::from(size))?;
+    Some((file, *cases.split_off_first()?))
+}
+
+// Takes an objective and its weight off them.
+fn read_objective(cases: &mut &[u8]) -> Option<(Objective, u16)>
+    ensures { OnSome result (length cases.new.now < length cases.old.now) }
+{
+    let objective = Objective {
+        column: usize::from(*cases.split_off_first()?),
+        bound: usize::from(read_word(cases)?),
+        target: 0,
+    };
+    Some((objective, read_word(cases)?))
+}
+
 // Takes the first case off the cases.
 fn read_case<'a>(rt: &HostRuntime, cases: &mut &'a [u8]) -> anyhow::Result<Case<'a>>
     ensures { OnOk result (length cases.new.now < length cases.old.now) }
 {
-    let size = cases.read_u16::<LittleEndian>()?;
-    let file = cases
-        .split_off(..usize::from(size))
-        .context("cases.bin is cut")?;
+    let (file, count) = read_head(cases).context("cases.bin is cut")?;
+    ensure!(usize::from(count) <= MAX_OBJECTIVES, "too many objectives");
     let mut objectives = Vec::new(rt.alloc());
     let mut weights = Vec::new(rt.alloc());
-    for _ in 0..cases.read_u8()? {
-        objectives.push(Objective {
-            column: usize::from(cases.read_u8()?),
-            bound: usize::from(cases.read_u16::<LittleEndian>()?),
-            target: 0,
-        })?;
-        weights.push(cases.read_u16::<LittleEndian>()?)?;
+    for _ in 0..count {
+        let (objective, weight) = read_objective(cases).context("cases.bin is cut")?;
+        objectives.push(objective)?;
+        weights.push(weight)?;
     }
     Ok(Case {
         file,

@@ -2,7 +2,7 @@
 use Rattle.std.proofs.Common.{◌≡◌, ℕ, zero, suc, ◌<◌, ◌≤◌, List, [], ◌∷◌, length, take, get_or, ℤ, pos, nat_abs, IfSome, Some, None, All, Option, unwrap_or, sym, refl, ap, ◌∙◌, subst, arith}
 use Rattle.std.specs.Option.{option_map}
 use Rattle.std.specs.List.{slice_get}
-use Rattle.std.proofs.lemmas.Option.{slice_get-get_or}
+use Rattle.std.proofs.lemmas.Option.{slice_get-get_or, slice_get_past}
 use Rattle.std.proofs.lemmas.List.Elements.{All-head, All-tail, All-from_recursion}
 use Rattle.mdp.specs.declared.WholeBranch.{WholeBranch}
 use Rattle.mdp.specs.Limits.{max_columns, max_reward}
@@ -128,3 +128,10 @@ module _ (t : Table) (s c b : ℕ) where
   -- a reward, or none in a column that the table lacks
   pub reward_among : (i : ℕ) (w : WholeBranch) → Facts t → Some w ≡ whole_branch t s c b → slice_get (take t.columns w.rewards) i ≡ reward_of t s c b i
   reward_among i w f e = reward_of_whole i w f.columns_high (branch_of t s c b) (branch_found t s c b f) (e ∙ whole_branch_is t s c b)
+
+  no_reward : (i : ℕ) → t.columns ≤ i → (o : Option Branch) → IfSome o (InTable t) → bind o (λ x. slice_get x.rewards i) ≡ None
+  no_reward i l None f = refl
+  no_reward i l (Some x) f = let e = f.rewards_all in slice_get_past x.rewards i (omega arith)
+
+  pub reward_past : (i : ℕ) → t.columns ≤ i → Facts t → reward_of t s c b i ≡ None
+  reward_past i l f = no_reward i l (branch_of t s c b) (branch_found t s c b f)

@@ -106,6 +106,10 @@ module _ (n g : ℕ) where
   ranked_at s Equal h = box_state_in s (omega arith) ∙ ap Some (cond-false (ltb s n) (open_state g s) full_state (le-ltb s n (omega arith)))
   ranked_at s Greater h = let e = box_states in slice_get_past (counter_box n g).states s (omega arith)
 
+  pub whole_at : (s : ℕ) (o : Ordering) → MatchOrdering o (s < n) (s ≡ n) (n < s) →
+      (c b : ℕ) → whole_branch (counter_box n g) s c b ≡ option_map whole_of (bind (bind (ranked s o) (λ cs. slice_get cs c)) (λ bs. slice_get bs b))
+  whole_at s o h c b = whole_branch_is (counter_box n g) s c b ∙ ap (λ r. option_map whole_of (bind (bind r (λ cs. slice_get cs c)) (λ bs. slice_get bs b))) (ranked_at s o h)
+
   module _ (s : ℕ) (o : Ordering) (e : o ≡ nat_cmp s n) where
     box_ranked : state_of (counter_box n g) s ≡ ranked s o
     box_ranked = ranked_at s o (subst (λ r. MatchOrdering r (s < n) (s ≡ n) (n < s)) (sym e) (ranks s n))
@@ -117,7 +121,7 @@ module _ (n g : ℕ) where
     branches_ranked c = ap (λ r. option_map length (bind r (λ cs. slice_get cs c))) box_ranked
 
     pub whole_ranked : (c b : ℕ) → whole_branch (counter_box n g) s c b ≡ option_map whole_of (bind (bind (ranked s o) (λ cs. slice_get cs c)) (λ bs. slice_get bs b))
-    whole_ranked c b = whole_branch_is (counter_box n g) s c b ∙ ap (λ r. option_map whole_of (bind (bind r (λ cs. slice_get cs c)) (λ bs. slice_get bs b))) box_ranked
+    whole_ranked = whole_at s o (subst (λ r. MatchOrdering r (s < n) (s ≡ n) (n < s)) (sym e) (ranks s n))
 
 -- what is asked of the table as a whole
 pub ruleset box_whole = (box_states, box_first, box_divisor, box_columns)

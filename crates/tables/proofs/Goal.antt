@@ -1,8 +1,8 @@
 -- The goal's table has the facts, and what is asked of it.
-use Rattle.std.proofs.Common.{◌≡◌, ℕ, ◌+◌, ◌-◌, ◌<◌, ◌≤◌, Bool, true, false, cond, not, ◌&&◌, ◌||◌, leb, List, ◌++◌, length, ℤ, pos, nat_abs, is_some, Some, None, All, Option, sym, refl, ◌∙◌, subst, arith, length-append}
+use Rattle.std.proofs.Common.{◌≡◌, ℕ, ◌+◌, ◌-◌, ◌<◌, ◌≤◌, Bool, true, false, cond, not, ◌&&◌, ◌||◌, ltb, leb, List, ◌++◌, length, ℤ, pos, nat_abs, is_some, Some, None, All, Option, sym, refl, ◌∙◌, subst, arith, length-append}
 use lib.ListN.{length-map}
 use Rattle.std.specs.Option.{option_map, ForSome}
-use Rattle.std.proofs.lemmas.Bool.{leb-true, leb-false}
+use Rattle.std.proofs.lemmas.Bool.{cond_both, and_parts, ltb-true, leb-true, leb-false}
 use Rattle.std.proofs.lemmas.List.Elements.{All-append}
 use Rattle.mdp.specs.Limits.{max_columns, max_reward}
 use Rattle.mdp.specs.Table.{Branch, State, Table, StateFacts, Facts}
@@ -74,6 +74,22 @@ pub goal_facts : (o : Option (List Bool)) (t : Table) → ForSome o (λ _. GoalF
 unfolding goal_view
 goal_facts None t h f = f
 goal_facts (Some marks) t h f = let k = h marks refl in goal_table_facts marks t k.0 k.1 f
+
+-- a table that the layer fits has room for both halves and for the column
+pub goal_few : (t : Table) → GoalFits t → length t.states ≤ max_marks
+goal_few t h = h.0
+
+pub goal_free : (t : Table) → GoalFits t → t.columns < max_columns
+goal_free t h = h.1
+
+-- facts of any table are kept where the layer's table is taken only if it fits
+pub goal_kept : (on : Bool) (marks : List Bool) (t : Table) → Facts t → Facts (cond (on && (leb (length t.states) max_marks && ltb t.columns max_columns)) (goal_table marks t) t)
+goal_kept on marks t f =
+    let few = leb (length t.states) max_marks in
+    let free = ltb t.columns max_columns in
+    cond_both (on && (few && free)) (goal_table marks t) t Facts
+    (λ e. let p = and_parts few free (and_parts on (few && free) e).1 in goal_table_facts marks t (leb-true (length t.states) max_marks p.0) (ltb-true t.columns max_columns p.1) f)
+    (λ e. f)
 
 module _ (t : Table) where
   abbrev n : ℕ

@@ -1,9 +1,10 @@
 -- The mirror's table has the facts, and what is asked of it.
-use Rattle.std.proofs.Common.{◌≡◌, ℕ, zero, suc, ◌+◌, ◌<◌, ◌≤◌, List, [], ◌∷◌, map, length, get_or, ℤ, pos, neg_ℤ, nat_abs, cond, is_some, IfSome, Some, None, All, Option, sym, refl, ap, ◌∙◌, arith}
+use Rattle.std.proofs.Common.{◌≡◌, ℕ, zero, suc, ◌+◌, ◌<◌, ◌≤◌, List, [], ◌∷◌, map, length, get_or, ℤ, pos, neg_ℤ, nat_abs, Bool, cond, ◌&&◌, ltb, is_some, IfSome, Some, None, All, Option, sym, refl, ap, ◌∙◌, arith}
 use lib.ListN.{length-map}
 use Rattle.std.specs.Option.{option_map, ForSome}
 use Rattle.std.specs.List.{slice_get}
 use Rattle.std.proofs.lemmas.Option.{slice_get-get_or}
+use Rattle.std.proofs.lemmas.Bool.{cond_both, and_parts, ltb-true}
 use Rattle.std.proofs.lemmas.List.Elements.{All-head, All-tail}
 use Rattle.mdp.specs.declared.WholeBranch.{WholeBranch}
 use Rattle.mdp.specs.Limits.{max_columns, max_reward}
@@ -50,6 +51,15 @@ pub mirror_facts : (o : Option ℕ) (t : Table) → ForSome o (λ j. MirrorFits 
 unfolding mirror_view
 mirror_facts None t h f = f
 mirror_facts (Some j) t h f = mirror_table_facts j t (h j refl).1 f
+
+-- facts of any table are kept where the layer's table is taken only if it fits
+pub mirror_kept : (on : Bool) (j : ℕ) (t : Table) → Facts t → Facts (cond (on && (ltb t.columns max_columns && ltb j t.columns)) (mirror_table j t) t)
+mirror_kept on j t f =
+    let free = ltb t.columns max_columns in
+    let there = ltb j t.columns in
+    cond_both (on && (free && there)) (mirror_table j t) t Facts
+    (λ e. let p = and_parts free there (and_parts on (free && there) e).1 in mirror_table_facts j t (ltb-true t.columns max_columns p.0) f)
+    (λ e. f)
 
 module _ (t : Table) where
   -- what holds of the table below and of the mirror's, holds of the view

@@ -11,6 +11,9 @@ length_text t = let within = t.bytes.within in omega (arith, length-take t.bytes
 pub length_decimal_64 : (n : ℕ) → n < 2 ^ 64 → length (decimal n) ≤ 20
 length_decimal_64 n h = length-decimal-le 20 n (omega arith) (omega arith) h
 
+pub length_decimal_16 : (n : ℕ) → n < 2 ^ 16 → length (decimal n) ≤ 5
+length_decimal_16 n h = length-decimal-le 5 n (omega arith) (omega arith) (omega arith)
+
 pub length_decimal_8 : (n : ℕ) → n < 256 → length (decimal n) ≤ 3
 length_decimal_8 n h = length-decimal-le 3 n (omega arith) (omega arith) (omega arith)
 

@@ -1,11 +1,11 @@
 // A short text that is made in place.
 #![tactic(auto)]
 
-ghost use Rattle.std.specs.Prelude.{◌≡◌, [], ◌++◌, length, drop, if◌then◌else◌, Some, None, nat_le};
+ghost use Rattle.std.specs.Prelude.{◌≡◌, [], ◌++◌, length, drop, if◌then◌else◌, Some, None, decimal, nat_le};
+ghost use Rattle.std.specs.Fmt.{signed_decimal};
 ghost use Rattle.text.specs.Texts.{text_of, followed_by};
 
 use few::Few;
-use itoa::{Buffer, Integer};
 
 pub const MAX_TEXT: usize = 64;
 
@@ -30,12 +30,24 @@ impl Text {
         self.bytes.extend_from_slice(word.as_bytes());
     }
 
-    // The decimal digits of a number, behind a sign where it is below zero; those that find no room are left out.
-    pub fn push_number<I: Integer>(&mut self, number: I)
-        ensures { text_of self.new ≡ followed_by (text_of self.old) (I.text number) }
+    // Digits that find no room are left out. `as` loses nothing: the last digit is below ten.
+    pub fn push_decimal(&mut self, number: u64)
+        ensures { text_of self.new ≡ followed_by (text_of self.old) (decimal number) }
     {
-        let mut buffer = Buffer::new();
-        self.push_str(buffer.format(number));
+        if number >= 10 {
+            self.push_decimal(number / 10);
+        }
+        self.bytes.extend_from_slice(&[b'0' + (number % 10) as u8]);
+    }
+
+    // Behind a sign where it is below zero.
+    pub fn push_signed(&mut self, number: i64)
+        ensures { text_of self.new ≡ followed_by (text_of self.old) (signed_decimal number) }
+    {
+        if number < 0 {
+            self.push_str("-");
+        }
+        self.push_decimal(number.unsigned_abs());
     }
 
     pub fn as_slice(&self) -> &[u8]

@@ -27,10 +27,10 @@ returns-in-Refuted c =
     let fits-ceiling : SFits w64 ceiling = search rules in
     let fits_sum : SFits w64 sum = search rules in
     let ws = c.push_weights.ensures ∙ ap (λ ns. followed_by t1 (line (spaced ns))) c.as_slice-in-Refuted.ensures in
-    let a = c.push_number.ensures ∙ ap (λ z. followed_by t2 (signed_decimal z)) (to_z-of_z w64 ceiling fits-ceiling) in
-    let b = c.push_number-in-Refuted.ensures ∙ ap (λ z. followed_by t4 (signed_decimal z)) (to_z-of_z w64 sum fits_sum) in
+    let a = c.push_signed.ensures ∙ ap (λ z. followed_by t2 (signed_decimal z)) (to_z-of_z w64 ceiling fits-ceiling) in
+    let b = c.push_signed-in-Refuted.ensures ∙ ap (λ z. followed_by t4 (signed_decimal z)) (to_z-of_z w64 sum fits_sum) in
     let rows = map row_of c.args.rows.now in
-    refuted_text (text_of c.new-text.result) t1 t2 (text_of c.push_number.new.self) t4 (text_of c.push_number-in-Refuted.new.self) (text_of c.push_str-in-Refuted-3.new.self)
+    refuted_text (text_of c.new-text.result) t1 t2 (text_of c.push_signed.new.self) t4 (text_of c.push_signed-in-Refuted.new.self) (text_of c.push_str-in-Refuted-3.new.self)
     (line (spaced (listed c.in-Refuted.weights))) (signed_decimal ceiling) (signed_decimal sum)
     c.new-text.ensures c.push_str-in-Refuted.ensures ws a c.push_str-in-Refuted-2.ensures b c.push_str-in-Refuted-3.ensures
     ∙ ap (λ v. followed_by [] (lines_of (verdict_of v) rows)) (sym c.in-Refuted.is)

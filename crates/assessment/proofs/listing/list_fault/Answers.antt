@@ -56,5 +56,5 @@ returns c =
           subst so (sym w.in-Question.is)
           (record { offset = refl; layer = omega arith; number = w.push_fault-in-Question.ensures.number; place = search rules }, ap text_of w.text-is ∙ w.push_fault-in-Question.ensures.text)
     ] in
-    line_is (text_of c.new-text.result) (text_of c.push_str.new.self) (text_of c.push_number.new.self) t3 t4 (text_of c.push_str-3.new.self) at f (search rules) way.0
-    c.new-text.ensures c.push_str.ensures c.push_number.ensures c.push_str-2.ensures way.1 c.push_str-3.ensures
+    line_is (text_of c.new-text.result) (text_of c.push_str.new.self) (text_of c.push_decimal.new.self) t3 t4 (text_of c.push_str-3.new.self) at f (search rules) way.0
+    c.new-text.ensures c.push_str.ensures c.push_decimal.ensures c.push_str-2.ensures way.1 c.push_str-3.ensures

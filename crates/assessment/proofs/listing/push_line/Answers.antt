@@ -25,10 +25,17 @@ line_end t u v w n ns i h f inv e l =
 
 pub loop-number-preserved : goal.loop-number-preserved
 loop-number-preserved c =
-    number_more (text_of c.loop-number.text) (text_of c.push_str.new.self) (text_of c.push_number-in-loop-number.new.self) _ c.args.rest.now c.loop-number.number-index (omega arith)
-    c.loop-number.invariant c.push_str.ensures c.push_number-in-loop-number.ensures
+    let t = text_of c.loop-number.text in
+    let u = text_of c.push_str.new.self in
+    let v = text_of c.push_decimal-in-loop-number.new.self in
+    let d = c.push_decimal-in-loop-number.ensures ∙ ap (λ n. followed_by u (decimal n)) c.from-in-loop-number.ensures in
+    number_more t u v _ c.args.rest.now c.loop-number.number-index (omega arith) c.loop-number.invariant c.push_str.ensures d
 
 pub returns : goal.returns
 returns c =
-    line_end (text_of c.args.text.now) (text_of c.push_number.new.self) (text_of c.loop-number.text) (text_of c.push_str-2.new.self) c.args.first c.args.rest.now c.loop-number.number-index (omega arith)
-    c.push_number.ensures c.loop-number.invariant (then_none c.loop-number.text) c.push_str-2.ensures
+    let t = text_of c.args.text.now in
+    let u = text_of c.push_decimal.new.self in
+    let v = text_of c.loop-number.text in
+    let w = text_of c.push_str-2.new.self in
+    let d = c.push_decimal.ensures ∙ ap (λ n. followed_by t (decimal n)) c.from.ensures in
+    line_end t u v w c.args.first c.args.rest.now c.loop-number.number-index (omega arith) d c.loop-number.invariant (then_none c.loop-number.text) c.push_str-2.ensures

@@ -1,12 +1,14 @@
-use Rattle.std.proofs.Common.{Less, Equal, Greater, sym, ◌∙◌}
-use Rattle.tables.proofs.CounterBox.{whole_ranked}
+use Rattle.std.proofs.Common.{Less, Equal, Greater, sym, ◌∙◌, arith}
+use Rattle.tables.proofs.CounterBox.{whole_at}
 use Rattle.counter_box.proofs.CounterBoxDecisionModel.branch.Goals as goal
 
-pub returns-in-Less : goal.returns-in-Less
-returns-in-Less c = c.open_branch.ensures ∙ sym (whole_ranked c.args.self.now.limit c.args.self.now.chance c.args.state Less c.in-Less.ensures c.args.choice c.args.branch)
+pub returns-then-state-self : goal.returns-then-state-self
+returns-then-state-self c =
+    c.open_branch.ensures ∙ sym (whole_at c.args.self.now.limit c.args.self.now.chance c.args.state Less c.if-state-self.true c.args.choice c.args.branch)
 
-pub returns-in-Equal : goal.returns-in-Equal
-returns-in-Equal c = c.full_branch.ensures ∙ sym (whole_ranked c.args.self.now.limit c.args.self.now.chance c.args.state Equal c.in-Equal.ensures c.args.choice c.args.branch)
+pub returns-then-state-self-2 : goal.returns-then-state-self-2
+returns-then-state-self-2 c =
+    c.full_branch.ensures ∙ sym (whole_at c.args.self.now.limit c.args.self.now.chance c.args.state Equal c.if-state-self-2.true c.args.choice c.args.branch)
 
-pub returns-in-Greater : goal.returns-in-Greater
-returns-in-Greater c = sym (whole_ranked c.args.self.now.limit c.args.self.now.chance c.args.state Greater c.in-Greater.ensures c.args.choice c.args.branch)
+pub returns-else-state-self-2 : goal.returns-else-state-self-2
+returns-else-state-self-2 c = sym (whole_at c.args.self.now.limit c.args.self.now.chance c.args.state Greater (omega arith) c.args.choice c.args.branch)
