@@ -1,4 +1,3 @@
-pub mod Reached
 pub mod Pricing
 pub mod Mixing
 pub mod Settling

@@ -3,7 +3,6 @@ use Rattle.std.proofs.Common.{◌≡◌, ℕ, Bool, List, length, take, Ok, Opti
 use Rattle.std.specs.Bool.{then_some}
 use Rattle.std.proofs.lemmas.List.{take_all}
 use Rattle.std.proofs.lemmas.Bool.Decides.{nat_tests}
-use Rattle.mdp.specs.declared.Model.{Ghosts}
 use Rattle.mdp.specs.Table.{Table}
 use Rattle.truth.specs.Dockets.{Verdict, Achieved, judged, meets, mixed}
 use Rattle.truth.specs.Calls.{mix, after}
@@ -19,7 +18,7 @@ use Rattle.docket.specs.declared.docket.Docket.{Docket}
 use Rattle.docket.specs.Views.{view}
 use Rattle.docket.proofs.Pairs.{Shares, turned}
 
-pub mixed_is : {M : Type 0} {m : Ghosts M} (t : Table) (d : Docket M m) (ss : List ℕ) (kept : Shares) (enough : Option Shares) (met : Bool) (v : Verdict) →
+pub mixed_is : {M : Type 0} (t : Table) (d : Docket M) (ss : List ℕ) (kept : Shares) (enough : Option Shares) (met : Bool) (v : Verdict) →
     Ok met ≡ answered (shares_refusal (length (table_of d.table)) ss) (meets (view d) ss) → listed kept ≡ take 16 ss → enough ≡ then_some met kept →
     v ≡ judged (verdict_of d.verdict) (came_out (Mixed enough)) (verdict_by (Mixed enough)) → record (view d) { verdict = v } ≡ after t (view d) (mix ss)
 unfolding mixed

@@ -8,7 +8,6 @@ use Rattle.std.proofs.lemmas.Bool.{le-leb, eq-eqb, and_from}
 use Rattle.std.proofs.lemmas.Bool.Decides.{nat_tests}
 use Rattle.std.proofs.lemmas.List.Elements.{All-head, All-tail}
 use Rattle.mdp.specs.Table.{Table}
-use Rattle.mdp.specs.declared.Model.{Ghosts}
 use Rattle.plans.specs.declared.Objective.{Objective}
 use Rattle.plans.specs.declared.Row.{Row}
 use Rattle.plans.specs.Blends.{mean_up, mean_down}
@@ -67,7 +66,7 @@ module _ (t : Table) (d : Docket) (ws ks : List ℕ) (lent row : ℕ) (weighed :
   row_is = taken_value (room_refusal d.table ks) row (number ks d.table) placed ∙ ap (λ v. number v d.table) same_weights
 
 -- its sweep is made
-module _ {M : Type 0} {m : Ghosts M} (t : Table) (d : code.Docket M m) (ws : List ℕ) (old : List Row) (taken : refusal t (view d) (price ws (length old)) ≡ None)
+module _ {M : Type 0} (t : Table) (d : code.Docket M) (ws : List ℕ) (old : List Row) (taken : refusal t (view d) (price ws (length old)) ≡ None)
     (os : List Objective) (same-os : os ≡ held d.objectives) (ks : List ℕ) (same-ks : ks ≡ ws) where
   askable : (asked (held d.objectives) ws && leb (2 * length t.states) (length old)) ≡ true
   askable =

@@ -35,7 +35,7 @@ module _ {M : Type 0} {m : Ghosts M} (s : Settling M m) (a : ℕ) (room : Room (
         inl (omega (arith, room)),
       )
 
-  pub toward_leads : (d : code.Docket M m) (rs : List Row) → d.model ≡ s.docket.now.model → view d ≡ after (stage s).table (stage s).docket call →
+  pub toward_leads : (d : code.Docket M) (rs : List Row) → d.model ≡ s.docket.now.model → view d ≡ after (stage s).table (stage s).docket call →
       rs ≡ if_taken (refusal (stage s).table (stage s).docket call) (priced_rows (stage s).table (stage s).docket.objectives (toward a) s.rows.now) s.rows.now →
       record (stage s) { model = d.model; table = m.table d.model; docket = view d; rows = rs } ≡ after_price (stage s) (toward a)
   toward_leads d rs x y z =
@@ -148,6 +148,6 @@ module _ {M : Type 0} where
     anew_is = sym (ap (after_prices (emptied s)) prices_are) ∙ all_priced (emptied s) (settle_prices s.table s.docket)
 
 -- cleared, and priced once
-pub one_is : {M : Type 0} {m : Ghosts M} (s : Settling M m) (d : code.Docket M m) (after : Stage M) → d.model ≡ s.docket.now.model → view d ≡ cleared (view s.docket.now) →
+pub one_is : {M : Type 0} {m : Ghosts M} (s : Settling M m) (d : code.Docket M) (after : Stage M) → d.model ≡ s.docket.now.model → view d ≡ cleared (view s.docket.now) →
     after ≡ after_price (record (stage s) { model = d.model; table = m.table d.model; docket = view d }) (toward 0) → after ≡ one (stage s)
 one_is {m = m} s d after x y z = z ∙ (λ i. after_price (record (stage s) { model = x i; table = m.table (x i); docket = y i }) (toward 0))

@@ -1,4 +1,3 @@
-pub mod Reached
 pub mod Views
 pub mod Pricing
 pub mod Settling

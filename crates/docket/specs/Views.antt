@@ -1,8 +1,8 @@
 -- A docket as the theorems have it. Assumes nothing.
-use Rattle.mdp.specs.declared.Model.{Ghosts}
 use Rattle.truth.specs.Dockets as dockets
+use Rattle.verdict.specs.Verdicts.{verdict_of}
+use Rattle.holdings.specs.Views.{held, table_of}
 use Rattle.docket.specs.declared.docket.Docket.{Docket}
-use Rattle.docket.specs.Reached.{viewed}
 
-abbrev pub view : {M : Type 0} {m : Ghosts M} → Docket M m → dockets.Docket
-view d = viewed d.objectives d.table d.verdict
+abbrev pub view : {M : Type 0} → Docket M → dockets.Docket
+view d = record { objectives = held d.objectives; table = table_of d.table; verdict = verdict_of d.verdict }

@@ -4,7 +4,7 @@ ghost use Rattle.truth.specs.Dockets.{meets, posed};
 ghost use Rattle.truth.specs.Calls.{mix, retarget, clear, refusal, after};
 ghost use Rattle.verdict.specs.Answers.{told_docket, answered};
 ghost use Rattle.holdings.specs.Views.{held};
-ghost use Rattle.docket.specs.Reached.{Offered, Reached, viewed};
+ghost use Rattle.docket.specs.Views.{view};
 
 use holdings::objectives::Objectives;
 use holdings::table::RowTable;
@@ -18,23 +18,18 @@ mod settling;
 
 pub use pricing::Price;
 
-// It came of a draft by calls, so that what its verdict shows is true of the model. Each call says that the model is as it
-// was: the field is private, and no type says so for them.
+// Each call says that the model is as it was: the field is private, and no type says so for them.
 #[derive(Drop)]
-pub struct Docket<M: Model> {
+pub struct Docket<M> {
     model: M,
     objectives: Objectives,
     table: RowTable,
     verdict: Verdict,
-    ghost reached: { Reached (M.Model.table model) (viewed objectives table verdict) },
 }
 
 impl<M: Model> Docket<M> {
-    ghost use Rattle.docket.specs.Views.{view};
-
     // An open docket with no rows.
     pub(crate) fn posed(model: M, objectives: Objectives) -> Docket<M>
-        requires offered { Offered (M.Model.table model).columns (held objectives) }
         ensures view { view result ≡ posed (held objectives) }
         ensures model { result.model ≡ model }
     {

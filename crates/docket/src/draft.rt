@@ -5,7 +5,6 @@ ghost use Rattle.truth.specs.Calls.{draft_refusal, added};
 ghost use Rattle.truth.specs.Claims.{TruthOver};
 ghost use Rattle.verdict.specs.Answers.{told_draft, answered};
 ghost use Rattle.holdings.specs.Views.{held};
-ghost use Rattle.docket.specs.Reached.{Offered};
 ghost use Rattle.docket.specs.Views.{view};
 
 use crate::docket::Docket;
@@ -15,10 +14,9 @@ use plans::Objective;
 use verdict::faults::DraftFault;
 
 #[derive(Drop)]
-pub struct Draft<M: Model> {
+pub struct Draft<M> {
     model: M,
     objectives: Objectives,
-    ghost offered: { Offered (M.Model.table model).columns (held objectives) },
 }
 
 impl<M: Model> Draft<M> {

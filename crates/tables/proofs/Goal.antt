@@ -1,8 +1,9 @@
 -- The goal's table has the facts, and what is asked of it.
-use Rattle.std.proofs.Common.{◌≡◌, ℕ, ◌+◌, ◌-◌, ◌<◌, ◌≤◌, Bool, true, false, cond, not, ◌&&◌, ◌||◌, ltb, leb, List, ◌++◌, length, ℤ, pos, nat_abs, is_some, Some, None, All, Option, sym, refl, ◌∙◌, subst, arith, length-append}
+use Rattle.std.proofs.Common.{◌≡◌, ℕ, ◌+◌, ◌-◌, ◌<◌, ◌≤◌, Bool, true, false, cond, not, ◌&&◌, ◌||◌, leb, List, ◌++◌, length, ℤ, pos, nat_abs, is_some, Some, None, All, Option, sym, refl, ◌∙◌, subst, arith, length-append}
 use lib.ListN.{length-map}
 use Rattle.std.specs.Option.{option_map, ForSome}
-use Rattle.std.proofs.lemmas.Bool.{cond_both, and_parts, ltb-true, leb-true, leb-false}
+use Rattle.std.proofs.lemmas.Bool.{cond_both, and_parts, leb-true, leb-false}
+use Rattle.std.proofs.lemmas.Bool.Decides.{nat_tests}
 use Rattle.std.proofs.lemmas.List.Elements.{All-append}
 use Rattle.mdp.specs.Limits.{max_columns, max_reward}
 use Rattle.mdp.specs.Table.{Branch, State, Table, StateFacts, Facts}
@@ -10,6 +11,7 @@ use Rattle.mdp.specs.Questions.{branch_of, choice_count, branch_count, weight_of
 use Rattle.tables.specs.Whole.{whole_extended}
 use Rattle.tables.specs.Layer.{each_branch}
 use Rattle.tables.specs.Goal.{max_marks, is_marked, state_number, state_below, goal_next, goal_reward, goal_branch, goal_half, goal_table, GoalFits, goal_view, view_below}
+use Rattle.tables.specs.Claims.{goal_fits, GoalKept}
 use Rattle.tables.proofs.Places.{nth_map, nth_left, nth_right}
 use Rattle.tables.proofs.Follows.{Follows, follows_choices, follows_branches, extended_weight, extended_next, extended_reward, extended_last, extended_whole, mapped_mapped}
 use Rattle.tables.proofs.Kept.{extended_facts, states_kept, extended_table_facts}
@@ -82,13 +84,15 @@ goal_few t h = h.0
 pub goal_free : (t : Table) → GoalFits t → t.columns < max_columns
 goal_free t h = h.1
 
+-- a table that passes the test fits
+goal_fitting : (t : Table) → goal_fits t ≡ true → GoalFits t
+goal_fitting t e = (grind (arith, nat_tests), grind (arith, nat_tests))
+
 -- facts of any table are kept where the layer's table is taken only if it fits
-pub goal_kept : (on : Bool) (marks : List Bool) (t : Table) → Facts t → Facts (cond (on && (leb (length t.states) max_marks && ltb t.columns max_columns)) (goal_table marks t) t)
+pub goal_kept : GoalKept
 goal_kept on marks t f =
-    let few = leb (length t.states) max_marks in
-    let free = ltb t.columns max_columns in
-    cond_both (on && (few && free)) (goal_table marks t) t Facts
-    (λ e. let p = and_parts few free (and_parts on (few && free) e).1 in goal_table_facts marks t (leb-true (length t.states) max_marks p.0) (ltb-true t.columns max_columns p.1) f)
+    cond_both (on && goal_fits t) (goal_table marks t) t Facts
+    (λ e. let k = goal_fitting t (and_parts on (goal_fits t) e).1 in goal_table_facts marks t k.0 k.1 f)
     (λ e. f)
 
 module _ (t : Table) where

@@ -1,10 +1,11 @@
 -- The mirror's table has the facts, and what is asked of it.
-use Rattle.std.proofs.Common.{◌≡◌, ℕ, zero, suc, ◌+◌, ◌<◌, ◌≤◌, List, [], ◌∷◌, map, length, get_or, ℤ, pos, neg_ℤ, nat_abs, Bool, cond, ◌&&◌, ltb, is_some, IfSome, Some, None, All, Option, sym, refl, ap, ◌∙◌, arith}
+use Rattle.std.proofs.Common.{◌≡◌, ℕ, zero, suc, ◌+◌, ◌<◌, ◌≤◌, List, [], ◌∷◌, map, length, get_or, ℤ, pos, neg_ℤ, nat_abs, true, cond, ◌&&◌, is_some, IfSome, Some, None, All, Option, sym, refl, ap, ◌∙◌, arith}
 use lib.ListN.{length-map}
 use Rattle.std.specs.Option.{option_map, ForSome}
 use Rattle.std.specs.List.{slice_get}
 use Rattle.std.proofs.lemmas.Option.{slice_get-get_or}
-use Rattle.std.proofs.lemmas.Bool.{cond_both, and_parts, ltb-true}
+use Rattle.std.proofs.lemmas.Bool.{cond_both, and_parts}
+use Rattle.std.proofs.lemmas.Bool.Decides.{nat_tests}
 use Rattle.std.proofs.lemmas.List.Elements.{All-head, All-tail}
 use Rattle.mdp.specs.declared.WholeBranch.{WholeBranch}
 use Rattle.mdp.specs.Limits.{max_columns, max_reward}
@@ -13,6 +14,7 @@ use Rattle.mdp.specs.Questions.{bind, branch_of, choice_count, branch_count, wei
 use Rattle.tables.specs.Whole.{whole_extended}
 use Rattle.tables.specs.Layer.{each_branch}
 use Rattle.tables.specs.Mirror.{mirror_branch, mirror_table, MirrorFits, mirror_view}
+use Rattle.tables.specs.Claims.{mirror_fits, MirrorKept}
 use Rattle.tables.proofs.Places.{nth_map}
 use Rattle.tables.proofs.Asked.{InTable, branch_found, all_rewards_at, whole_rewards_small}
 use Rattle.tables.proofs.Follows.{Follows, follows_choices, follows_branches, extended_weight, extended_next, extended_reward, extended_last, extended_whole, mapped_id}
@@ -52,13 +54,15 @@ unfolding mirror_view
 mirror_facts None t h f = f
 mirror_facts (Some j) t h f = mirror_table_facts j t (h j refl).1 f
 
+-- a table that passes the test fits
+mirror_fitting : (j : ℕ) (t : Table) → mirror_fits j t ≡ true → MirrorFits j t
+mirror_fitting j t e = (grind (arith, nat_tests), grind (arith, nat_tests))
+
 -- facts of any table are kept where the layer's table is taken only if it fits
-pub mirror_kept : (on : Bool) (j : ℕ) (t : Table) → Facts t → Facts (cond (on && (ltb t.columns max_columns && ltb j t.columns)) (mirror_table j t) t)
+pub mirror_kept : MirrorKept
 mirror_kept on j t f =
-    let free = ltb t.columns max_columns in
-    let there = ltb j t.columns in
-    cond_both (on && (free && there)) (mirror_table j t) t Facts
-    (λ e. let p = and_parts free there (and_parts on (free && there) e).1 in mirror_table_facts j t (ltb-true t.columns max_columns p.0) f)
+    cond_both (on && mirror_fits j t) (mirror_table j t) t Facts
+    (λ e. mirror_table_facts j t (mirror_fitting j t (and_parts on (mirror_fits j t) e).1).1 f)
     (λ e. f)
 
 module _ (t : Table) where

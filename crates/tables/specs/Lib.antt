@@ -3,3 +3,4 @@ pub mod CounterBox
 pub mod Layer
 pub mod Goal
 pub mod Mirror
+pub mod Claims

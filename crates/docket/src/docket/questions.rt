@@ -1,6 +1,5 @@
 // What a docket can be asked.
 ghost use Rattle.std.specs.Prelude.{◌≡◌, map};
-ghost use Rattle.truth.specs.Claims.{ShowsTrue};
 ghost use Rattle.verdict.specs.Verdicts.{verdict_of};
 ghost use Rattle.holdings.specs.Views.{row_of};
 ghost use Rattle.docket.specs.Views.{view};
@@ -12,10 +11,8 @@ use plans::Objective;
 use verdict::verdict::Verdict;
 
 impl<M: Model> Docket<M> {
-    // What it shows is true of the model.
     pub fn verdict(&self) -> Verdict
-        ensures shown { verdict_of result ≡ (view self.now).verdict }
-        ensures truth { ShowsTrue (M.Model.table self.now.model) (view self.now) }
+        ensures { verdict_of result ≡ (view self.now).verdict }
     {
         self.verdict
     }

@@ -1,4 +1,4 @@
-use Rattle.std.proofs.Common.{sym, ap, ◌∙◌}
+use Rattle.std.proofs.Common.{sym, ◌∙◌}
 use Rattle.docket.specs.Views.{view}
 use Rattle.docket.proofs.Pairs.{closed, opened}
 use Rattle.docket.proofs.docket.Docket.judge_pairs.Goals as goal

@@ -11,7 +11,6 @@ use Rattle.holdings.specs.Views.{held, table_of}
 use Rattle.docket.specs.Pricing.{priced_rows, price_of, lent_refusal}
 use Rattle.docket.specs.Views.{view}
 use Rattle.docket.proofs.Pricing.{refusal_is, same_weights, is_taken, row_is, answer_is, rows_are, view_is, price_is}
-use Rattle.docket.proofs.Reached.{reached_more}
 use Rattle.docket.proofs.docket.Docket.price.Goals as goal
 
 pub returns-in_err-row : goal.returns-in_err-row
@@ -48,27 +47,6 @@ unwrap-ceiling-requires g c =
     let same = same_weights t (view d) ws _ (length old) _ c.in_ok-weights.ensures lends c.in_ok-row.ensures in
     let taken = is_taken t (view d) ws _ (length old) _ c.in_ok-weights.ensures lends c.in_ok-row.ensures in
     ap is_some (c.sweep-swept.ensures.answer ∙ answer_is t d ws old taken _ c.as_slice-objectives.ensures _ (c.as_slice.ensures ∙ same))
-
-pub invariant_of-self-2 : goal.invariant_of-self-2
-invariant_of-self-2 g c =
-    let d = c.args.self.now in
-    let t = g.M.Model.table d.model in
-    let ws = c.args.weights.now in
-    let old = c.args.rows.now in
-    let lent = length old in
-    let o = refusal t (view d) (price ws lent) in
-    let lends = taken_none (lent_refusal t lent) tt tt c.in_ok-check_lent.ensures in
-    let same = same_weights t (view d) ws _ lent _ c.in_ok-weights.ensures lends c.in_ok-row.ensures in
-    let taken = is_taken t (view d) ws _ lent _ c.in_ok-weights.ensures lends c.in_ok-row.ensures in
-    let number-is = row_is t (view d) ws _ lent _ c.in_ok-weights.ensures lends c.in_ok-row.ensures in
-    let a : c.sweep-swept.result ≡ Some (swept t (held d.objectives) ws) =
-    c.sweep-swept.ensures.answer ∙ answer_is t d ws old taken _ c.as_slice-objectives.ensures _ (c.as_slice.ensures ∙ same) in
-    let b = c.unwrap-ceiling.ensures in
-    let r = c.unwrap-ceiling.result in
-    let q : r ≡ swept t (held d.objectives) ws = cc in
-    let x = to_z-of_z w64 r.ceiling (search rules) in
-    let y = to_z-of_z w64 c.target_sum-target_sum.result (search rules) ∙ c.target_sum-target_sum.ensures in
-    record { reached = reached_more t (view d) _ d.reached (price ws lent) (view_is t (view d) ws _ same lent taken _ r _ _ number-is q x y _ c.after-self.ensures _ c.add.ensures ∙ sym (if_none o (priced t (view d) ws) (view d) taken)) }
 
 pub returns : goal.returns
 returns g c =
