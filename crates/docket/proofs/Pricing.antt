@@ -14,7 +14,7 @@ use Rattle.plans.specs.Blends.{mean_up, mean_down}
 use Rattle.plans.specs.Plans.{no_objective, target_sum}
 use Rattle.sweep.specs.Swept as sweep
 use Rattle.sweep.specs.Swept.{all_light, all_near, asked, answer}
-use Rattle.truth.specs.Dockets.{Verdict, Docket, Priced, Refuted, judged, same, number, has_row, swept, ceiling, point, priced}
+use Rattle.truth.specs.Dockets.{Docket, Priced, Refuted, judged, same, number, has_row, swept, ceiling, point, priced}
 use Rattle.truth.specs.Calls.{Cause, Fault, price, cause, first_of, refusal, small_weights}
 use Rattle.truth.proofs.Taken.{taken_exactly, decides_has_row}
 use Rattle.verdict.specs.Answers.{answered}
@@ -87,10 +87,10 @@ module _ {M : Type 0} (t : Table) (d : code.Docket M) (ws : List ℕ) (old : Lis
   rows_are = (λ i. sweep.swept mean_up mean_down t (same-os i) (same-ks i) old) ∙ ap (λ b. cond b (priced_rows t (held d.objectives) ws old) old) askable
 
 -- the docket after it
-module _ (t : Table) (d : Docket) (ws ks : List ℕ) (same-ks : ks ≡ ws) (lent : ℕ) (taken : refusal t d (price ws lent) ≡ None) (row : ℕ) (r : Row) (x s : ℤ)
+module _ (t : Table) (d e : Docket) (ws ks : List ℕ) (same-ks : ks ≡ ws) (lent : ℕ) (taken : refusal t d (price ws lent) ≡ None) (row : ℕ) (r : Row) (x s : ℤ)
     (row-is : row ≡ number ws d.table) (swept-is : r ≡ swept t d.objectives ws) (ceiling-is : x ≡ r.ceiling) (sum-is : s ≡ target_sum ks d.objectives)
-    (v : Verdict) (turns : v ≡ judged d.verdict (lt_z x s) (Refuted ks x s))
-    (rs : List Priced) (adds : rs ≡ cond (eqb row (length d.table) && ltb row 16) (d.table ++ (record { weights = ks; point = r.parts } ∷ [])) d.table) where
+    (kept : e.objectives ≡ d.objectives) (turns : e.verdict ≡ judged d.verdict (lt_z x s) (Refuted ks x s))
+    (adds : e.table ≡ cond (eqb row (length d.table) && ltb row 16) (d.table ++ (record { weights = ks; point = r.parts } ∷ [])) d.table) where
   -- a row is added unless there is one, and there is room
   placed : (new : List Priced) → cond (eqb (number ws d.table) (length d.table) && ltb (number ws d.table) 16) new d.table ≡ cond (has_row ws d.table) d.table new
   placed new =
@@ -106,14 +106,14 @@ module _ (t : Table) (d : Docket) (ws ks : List ℕ) (same-ks : ks ≡ ws) (lent
   sums : s ≡ target_sum ws d.objectives
   sums = sum-is ∙ ap (λ k. target_sum k d.objectives) same-ks
 
-  pub view_is : ◌≡◌ {A = Docket} (record { objectives = d.objectives; table = rs; verdict = v }) (priced t d ws)
+  pub view_is : e ≡ priced t d ws
   unfolding priced
   view_is =
       let table_is =
       adds ∙ (λ i. cond (eqb (row-is i) (length d.table) && ltb (row-is i) 16) (d.table ++ (record { weights = same-ks i; point = (swept-is i).parts } ∷ [])) d.table)
       ∙ placed (d.table ++ (record { weights = ws; point = point t d.objectives ws } ∷ [])) in
       let verdict-is = turns ∙ (λ i. judged d.verdict (lt_z (low i) (sums i)) (Refuted (same-ks i) (low i) (sums i))) in
-      λ i. record { objectives = d.objectives; table = table_is i; verdict = verdict-is i }
+      λ i. record { objectives = kept i; table = table_is i; verdict = verdict-is i }
 
   pub price_is : ◌≡◌ {A = Price} (record { row = row; ceiling = x; target_sum = s; point = r.parts }) (price_of t d ws)
   price_is = λ i. record { row = row-is i; ceiling = low i; target_sum = sums i; point = (swept-is i).parts }

@@ -23,6 +23,9 @@ module _ (xs : List ℕ) (e p n i : ℕ) (h : i < n) where
   rewards_turn : rewards_at xs e p (n - i) ≡ then_do (field_at xs e p) (λ v. cond (reward_fits v) (rewards_at xs e (p + 2) (n - (i + 1))) (bad Field p))
   rewards_turn = rw (less n i h) refl
 
+  pub rewards_cut : {y : FileFault} → Err y ≡ field_at xs e p → rewards_at xs e p (n - i) ≡ Err y
+  rewards_cut k = rewards_turn ∙ then_err _ k
+
   pub rewards_wrong : {v : ℕ} → Ok v ≡ field_at xs e p → false ≡ reward_fits v → rewards_at xs e p (n - i) ≡ bad Field p
   rewards_wrong k b = rewards_turn ∙ (then_ok _ k ∙ rw (← b) refl)
 

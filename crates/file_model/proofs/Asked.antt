@@ -1,16 +1,17 @@
 -- What the questions answer of the table that a file holds, by where its choices stand.
-use Rattle.std.proofs.Common.{◌≡◌, ℕ, zero, suc, ◌+◌, ◌*◌, ◌<◌, ◌≤◌, true, false, cond, ltb, List, [], ◌∷◌, map, length, get_or, Some, None, Option, All, sym, refl, ap, ◌∙◌, mul-le-mul_right, suc-mul, zero-mul, zero-add, arith}
+use Rattle.std.proofs.Common.{◌≡◌, ℕ, zero, suc, ◌+◌, ◌*◌, ◌<◌, ◌≤◌, true, false, cond, ltb, List, [], ◌∷◌, map, length, get_or, ℤ, pos, Some, None, Option, All, unwrap_or, sym, refl, ap, ◌∙◌, ⊎_elim, mul-le-mul_right, suc-mul, zero-mul, zero-add, arith}
 use Rattle.std.proofs.lemmas.List.{length-map}
 use Rattle.std.proofs.lemmas.List.FromFn.{length-range_with_len, get_or-map-range_with_len}
 use Rattle.std.proofs.lemmas.List.Elements.{All-head, All-tail}
+use Rattle.std.proofs.lemmas.Bool.{cases_lt, cond-true, cond-false, lt-ltb, le-ltb}
 use Rattle.std.specs.Option.{option_map, IfSome}
 use Rattle.std.specs.List.{range_with_len, slice_get}
 use Rattle.std.proofs.lemmas.Option.{slice_get_past, slice_get_within, get_or_from_slice_get, slice_get-map}
 use Rattle.mdp.specs.Limits.{max_choices}
 use Rattle.mdp.specs.Table.{Branch, State, Table}
-use Rattle.mdp.specs.Questions.{bind, state_of, choice_count, choice_of, branch_count, branch_of, whole_branch}
+use Rattle.mdp.specs.Questions.{bind, state_of, choice_count, choice_of, branch_count, branch_of, reward_of, reward_or_zero, whole_branch}
 use Rattle.file_check.specs.Check.{word, branch_size, choice_after, block_end}
-use Rattle.file_check.specs.Decode.{steps, branch_in, choice_in, choices_in, states_in, decode}
+use Rattle.file_check.specs.Decode.{steps, reward_in, branch_in, choice_in, choices_in, states_in, decode}
 use Rattle.file_check.specs.Places.{pair_place, starts_in, choice_starts}
 use Rattle.file_check.proofs.Sound.{length_steps}
 use Rattle.file_check.specs.Accepts.{accepted, Bytes}
@@ -72,15 +73,21 @@ module _ (xs : List ℕ) where
     pub choice_some : choice_of (decode xs) s k ≡ option_map (choice_in xs (get_or xs 6 0)) (slice_get starts k)
     choice_some = rw (state_is s, ← e) (slice_get-map (choice_in xs (get_or xs 6 0)) starts k)
 
-    -- and it ends within the file
-    pub choice_inside : accepted xs ≡ true → Bytes xs → IfSome (slice_get starts k) (λ a. choice_after xs (get_or xs 6 0) a ≤ length xs)
-    choice_inside sound typed =
+    there : s < word xs 0
+    there =
         let long = length-map (range_with_len 0 (word xs 0)) (choice_starts xs) ∙ length-range_with_len 0 (word xs 0) in
         let within = slice_get_within (starts_of xs) s starts (sym e) in
-        let lt : s < word xs 0 = omega arith in
-        let same : choice_starts xs s ≡ starts = sym (get_or-map-range_with_len (choice_starts xs) 0 (word xs 0) s s [] lt (zero-add s)) ∙ get_or_from_slice_get (starts_of xs) s starts [] (sym e) in
-        let all = rw same at (choices_inside xs sound typed s lt) in
-        All-slice_get (λ a. choice_after xs (get_or xs 6 0) a ≤ length xs) starts k all
+        omega arith
+
+    -- and it ends within the file, where all of its state do
+    starts_inside : All (λ a. choice_after xs (get_or xs 6 0) a ≤ length xs) (choice_starts xs s) → IfSome (slice_get starts k) (λ a. choice_after xs (get_or xs 6 0) a ≤ length xs)
+    starts_inside all =
+        let same : choice_starts xs s ≡ starts = sym (get_or-map-range_with_len (choice_starts xs) 0 (word xs 0) s s [] there (zero-add s)) ∙ get_or_from_slice_get (starts_of xs) s starts [] (sym e) in
+        let here = rw same at all in
+        All-slice_get (λ a. choice_after xs (get_or xs 6 0) a ≤ length xs) starts k here
+
+    pub choice_inside : accepted xs ≡ true → Bytes xs → IfSome (slice_get starts k) (λ a. choice_after xs (get_or xs 6 0) a ≤ length xs)
+    choice_inside sound typed = starts_inside (choices_inside xs sound typed s there)
 
   pub branches_are : (s k : ℕ) (place : Option ℕ) → choice_of (decode xs) s k ≡ option_map (choice_in xs (get_or xs 6 0)) place → option_map (λ a. get_or xs a 0) place ≡ branch_count (decode xs) s k
   branches_are s k None e = rw e refl
@@ -99,3 +106,25 @@ module _ (xs : List ℕ) where
       let z = branch_size (get_or xs 6 0) in
       let m : suc b * z ≤ get_or xs a 0 * z = mul-le-mul_right z l in
       omega (arith, suc-mul b z)
+
+  -- the rewards of a branch are read where the branch stands
+  module _ (s k b a : ℕ) (here : branch_of (decode xs) s k b ≡ Some (branch_in xs (get_or xs 6 0) a)) where
+    pub reward_some : (i : ℕ) → i < get_or xs 6 0 → reward_of (decode xs) s k b i ≡ Some (reward_in xs (a + 4 + i * 2))
+    reward_some i l = ap (λ o. bind o (λ x. slice_get x.rewards i)) here ∙ get_steps (reward_in xs) 2 (a + 4) (get_or xs 6 0) i l
+
+    pub reward_past : (i : ℕ) → get_or xs 6 0 ≤ i → reward_of (decode xs) s k b i ≡ None
+    reward_past i l = ap (λ o. bind o (λ x. slice_get x.rewards i)) here ∙ get_steps_past (reward_in xs) 2 (a + 4) (get_or xs 6 0) i l
+
+    reward_in_column : (i : ℕ) → reward_or_zero (decode xs) s k b i ≡ cond (ltb i (get_or xs 6 0)) (reward_in xs (a + 4 + i * 2)) (pos 0)
+    reward_in_column i =
+        ⊎_elim (λ l. ap (λ o. unwrap_or o (pos 0)) (reward_some i l) ∙ sym (cond-true _ _ _ (lt-ltb _ _ l)))
+        (λ l. ap (λ o. unwrap_or o (pos 0)) (reward_past i l) ∙ sym (cond-false _ _ _ (le-ltb _ _ l))) (cases_lt i (get_or xs 6 0))
+
+    abbrev reward_at : ℕ → ℤ
+    reward_at i = cond (ltb i (get_or xs 6 0)) (reward_in xs (a + 4 + i * 2)) (pos 0)
+
+    -- a whole branch is read where the branch stands
+    whole_there : (w n : ℕ) (rs : List ℤ) → w ≡ word xs a → n ≡ word xs (a + 2) → rs ≡ reward_at 0 ∷ reward_at 1 ∷ reward_at 2 ∷ reward_at 3 ∷ [] →
+        Some (record { weight = w; next = n; rewards = rs }) ≡ whole_branch (decode xs) s k b
+    whole_there w n rs ew en er =
+        rw (ew, en, er) (rw (← reward_in_column 0, ← reward_in_column 1, ← reward_in_column 2, ← reward_in_column 3) (sym (rw here refl)))

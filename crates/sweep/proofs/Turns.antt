@@ -12,7 +12,7 @@ use Rattle.plans.proofs.Limits.{rows_ceiling_within, rows_part_within, rows_leng
 use Rattle.sweep.specs.Limits.{max_worth}
 use Rattle.sweep.specs.Steps.{Small}
 use Rattle.sweep.specs.Swept.{Asked, stepped}
-use Rattle.sweep.proofs.Halves.{cleared, first_half, past_halves}
+use Rattle.sweep.proofs.Halves.{cleared, first_half, past_halves, halves_length}
 
 module _ (up down : Mean) (t : Table) (os : List Objective) (ws : List ℕ) where
   pub start_beyond : (n : ℕ) (old now : List Row) → n ≡ length t.states → now ≡ replicate (2 * n) zero_row ++ drop (2 * n) old → drop (2 * length t.states) now ≡ drop (2 * length t.states) old
@@ -37,6 +37,9 @@ module _ (up down : Mean) (t : Table) (os : List Objective) (ws : List ℕ) wher
 
     pub beyond : drop (2 * length t.states) now ≡ rest
     beyond = past_halves (length t.states) (rows up down t os ws n) (rows up down t os ws (n - 1)) rest now (rows_length up down t os ws n) (rows_length up down t os ws (n - 1)) h
+
+    pub turn_room : 2 * length t.states ≤ length now
+    turn_room = halves_length (length t.states) (rows up down t os ws n) (rows up down t os ws (n - 1)) rest now (rows_length up down t os ws n) (rows_length up down t os ws (n - 1)) h
 
     pub turn_small : Facts t → Lawful up → Lawful down → Asked os ws → n ≤ horizon os → Small max_worth (take (length t.states) now)
     turn_small f lu ld a l =

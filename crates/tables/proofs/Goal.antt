@@ -11,7 +11,7 @@ use Rattle.mdp.specs.Questions.{branch_of, choice_count, branch_count, weight_of
 use Rattle.tables.specs.Whole.{whole_extended}
 use Rattle.tables.specs.Layer.{each_branch}
 use Rattle.tables.specs.Goal.{max_marks, is_marked, state_number, state_below, goal_next, goal_reward, goal_branch, goal_half, goal_table, GoalFits, goal_view, view_below}
-use Rattle.tables.specs.Claims.{goal_fits, GoalKept}
+use Rattle.tables.specs.Claims.{goal_fits, GoalDecided, GoalTested, GoalKept}
 use Rattle.tables.proofs.Places.{nth_map, nth_left, nth_right}
 use Rattle.tables.proofs.Follows.{Follows, follows_choices, follows_branches, extended_weight, extended_next, extended_reward, extended_last, extended_whole, mapped_mapped}
 use Rattle.tables.proofs.Kept.{extended_facts, states_kept, extended_table_facts}
@@ -87,6 +87,13 @@ goal_free t h = h.1
 -- a table that passes the test fits
 goal_fitting : (t : Table) → goal_fits t ≡ true → GoalFits t
 goal_fitting t e = (grind (arith, nat_tests), grind (arith, nat_tests))
+
+pub goal_decided : GoalDecided
+goal_decided t = (goal_fitting t, λ h. let few = h.0 in let free = h.1 in grind (arith, nat_tests))
+
+pub goal_tested : GoalTested
+unfolding goal_view
+goal_tested on marks t = elim (on && goal_fits t) as (λ b. goal_view (cond b (Some marks) None) t ≡ cond b (goal_table marks t) t) [ true ↦ refl | false ↦ refl ]
 
 -- facts of any table are kept where the layer's table is taken only if it fits
 pub goal_kept : GoalKept

@@ -1,5 +1,5 @@
 -- The mirror's table has the facts, and what is asked of it.
-use Rattle.std.proofs.Common.{◌≡◌, ℕ, zero, suc, ◌+◌, ◌<◌, ◌≤◌, List, [], ◌∷◌, map, length, get_or, ℤ, pos, neg_ℤ, nat_abs, true, cond, ◌&&◌, is_some, IfSome, Some, None, All, Option, sym, refl, ap, ◌∙◌, arith}
+use Rattle.std.proofs.Common.{◌≡◌, ℕ, zero, suc, ◌+◌, ◌<◌, ◌≤◌, List, [], ◌∷◌, map, length, get_or, ℤ, pos, neg_ℤ, nat_abs, true, false, cond, ◌&&◌, is_some, IfSome, Some, None, All, Option, sym, refl, ap, ◌∙◌, arith}
 use lib.ListN.{length-map}
 use Rattle.std.specs.Option.{option_map, ForSome}
 use Rattle.std.specs.List.{slice_get}
@@ -14,7 +14,7 @@ use Rattle.mdp.specs.Questions.{bind, branch_of, choice_count, branch_count, wei
 use Rattle.tables.specs.Whole.{whole_extended}
 use Rattle.tables.specs.Layer.{each_branch}
 use Rattle.tables.specs.Mirror.{mirror_branch, mirror_table, MirrorFits, mirror_view}
-use Rattle.tables.specs.Claims.{mirror_fits, MirrorKept}
+use Rattle.tables.specs.Claims.{mirror_fits, MirrorDecided, MirrorTested, MirrorKept}
 use Rattle.tables.proofs.Places.{nth_map}
 use Rattle.tables.proofs.Asked.{InTable, branch_found, all_rewards_at, whole_rewards_small}
 use Rattle.tables.proofs.Follows.{Follows, follows_choices, follows_branches, extended_weight, extended_next, extended_reward, extended_last, extended_whole, mapped_id}
@@ -49,14 +49,25 @@ pub mirror_idle : (t : Table) → mirror_view None t ≡ t
 unfolding mirror_view
 mirror_idle t = refl
 
-pub mirror_facts : (o : Option ℕ) (t : Table) → ForSome o (λ j. MirrorFits j t) → Facts t → Facts (mirror_view o t)
+-- what holds of the table below, and of the mirror's where it fits, holds of the view
+mirror_fitted : (P : Table → Type 0) (t : Table) → ((j : ℕ) → MirrorFits j t → P (mirror_table j t)) → P t → (o : Option ℕ) → ForSome o (λ j. MirrorFits j t) → P (mirror_view o t)
 unfolding mirror_view
-mirror_facts None t h f = f
-mirror_facts (Some j) t h f = mirror_table_facts j t (h j refl).1 f
+mirror_fitted P t shown idle None h = idle
+mirror_fitted P t shown idle (Some j) h = shown j (h j refl)
+
+pub mirror_facts : (o : Option ℕ) (t : Table) → ForSome o (λ j. MirrorFits j t) → Facts t → Facts (mirror_view o t)
+mirror_facts o t h f = mirror_fitted Facts t (λ j k. mirror_table_facts j t k.1 f) f o h
 
 -- a table that passes the test fits
 mirror_fitting : (j : ℕ) (t : Table) → mirror_fits j t ≡ true → MirrorFits j t
 mirror_fitting j t e = (grind (arith, nat_tests), grind (arith, nat_tests))
+
+pub mirror_decided : MirrorDecided
+mirror_decided j t = (mirror_fitting j t, λ h. let there = h.0 in let free = h.1 in grind (arith, nat_tests))
+
+pub mirror_tested : MirrorTested
+unfolding mirror_view
+mirror_tested on j t = elim (on && mirror_fits j t) as (λ b. mirror_view (cond b (Some j) None) t ≡ cond b (mirror_table j t) t) [ true ↦ refl | false ↦ refl ]
 
 -- facts of any table are kept where the layer's table is taken only if it fits
 pub mirror_kept : MirrorKept

@@ -4,6 +4,7 @@ use Rattle.std.proofs.lemmas.Result.{err_from_is_err_and}
 use Rattle.truth.specs.Dockets.{number, swept, priced}
 use Rattle.truth.specs.Calls.{price, refusal}
 use Rattle.verdict.specs.Answers.{told_docket, answered}
+use Rattle.verdict.specs.Verdicts.{verdict_of}
 use Rattle.few.specs.Views.{listed}
 use Rattle.verdict.proofs.Refused.{taken_none, taken_value, taken_some, if_none, if_some, numbered}
 use Rattle.holdings.specs.Refusals.{weights_refusal, room_refusal}
@@ -67,9 +68,10 @@ returns g c =
     let q : r ≡ swept t (held d.objectives) ws = cc in
     let x = to_z-of_z w64 r.ceiling (search rules) in
     let y = to_z-of_z w64 c.target_sum-target_sum.result (search rules) ∙ c.target_sum-target_sum.ensures in
+    let e = record (view d) { table = table_of c.add.new.self; verdict = verdict_of c.after-self.result } in
     record {
-      answer = ap Ok (price_is t (view d) ws _ same lent taken _ r _ _ number-is q x y _ c.after-self.ensures _ c.add.ensures) ∙ sym (ap (λ f. answered f (price_of t (view d) ws)) taken);
-      after = view_is t (view d) ws _ same lent taken _ r _ _ number-is q x y _ c.after-self.ensures _ c.add.ensures ∙ sym (if_none o (priced t (view d) ws) (view d) taken);
+      answer = ap Ok (price_is t (view d) e ws _ same lent taken _ r _ _ number-is q x y refl c.after-self.ensures c.add.ensures) ∙ sym (ap (λ f. answered f (price_of t (view d) ws)) taken);
+      after = view_is t (view d) e ws _ same lent taken _ r _ _ number-is q x y refl c.after-self.ensures c.add.ensures ∙ sym (if_none o (priced t (view d) ws) (view d) taken);
       rows = c.sweep-swept.ensures.rows ∙ rows_are t d ws old taken _ c.as_slice-objectives.ensures _ (c.as_slice.ensures ∙ same) ∙ sym (if_none o (priced_rows t (held d.objectives) ws old) old taken);
       model = refl;
     }
