@@ -80,7 +80,7 @@ module _ (xs : List ℕ) where
         omega arith
 
     -- and it ends within the file, where all of its state do
-    starts_inside : All (λ a. choice_after xs (get_or xs 6 0) a ≤ length xs) (choice_starts xs s) → IfSome (slice_get starts k) (λ a. choice_after xs (get_or xs 6 0) a ≤ length xs)
+    pub starts_inside : All (λ a. choice_after xs (get_or xs 6 0) a ≤ length xs) (choice_starts xs s) → IfSome (slice_get starts k) (λ a. choice_after xs (get_or xs 6 0) a ≤ length xs)
     starts_inside all =
         let same : choice_starts xs s ≡ starts = sym (get_or-map-range_with_len (choice_starts xs) 0 (word xs 0) s s [] there (zero-add s)) ∙ get_or_from_slice_get (starts_of xs) s starts [] (sym e) in
         let here = rw same at all in
@@ -124,7 +124,7 @@ module _ (xs : List ℕ) where
     reward_at i = cond (ltb i (get_or xs 6 0)) (reward_in xs (a + 4 + i * 2)) (pos 0)
 
     -- a whole branch is read where the branch stands
-    whole_there : (w n : ℕ) (rs : List ℤ) → w ≡ word xs a → n ≡ word xs (a + 2) → rs ≡ reward_at 0 ∷ reward_at 1 ∷ reward_at 2 ∷ reward_at 3 ∷ [] →
+    pub whole_there : (w n : ℕ) (rs : List ℤ) → w ≡ word xs a → n ≡ word xs (a + 2) → rs ≡ reward_at 0 ∷ reward_at 1 ∷ reward_at 2 ∷ reward_at 3 ∷ [] →
         Some (record { weight = w; next = n; rewards = rs }) ≡ whole_branch (decode xs) s k b
     whole_there w n rs ew en er =
         rw (ew, en, er) (rw (← reward_in_column 0, ← reward_in_column 1, ← reward_in_column 2, ← reward_in_column 3) (sym (rw here refl)))

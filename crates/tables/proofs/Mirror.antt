@@ -50,13 +50,13 @@ unfolding mirror_view
 mirror_idle t = refl
 
 -- what holds of the table below, and of the mirror's where it fits, holds of the view
-mirror_fitted : (P : Table → Type 0) (t : Table) → ((j : ℕ) → MirrorFits j t → P (mirror_table j t)) → P t → (o : Option ℕ) → ForSome o (λ j. MirrorFits j t) → P (mirror_view o t)
+mirror_fitted : (P : Table → Type 0) (t : Table) (o : Option ℕ) → ((j : ℕ) → o ≡ Some j → MirrorFits j t → P (mirror_table j t)) → P t → ForSome o (λ j. MirrorFits j t) → P (mirror_view o t)
 unfolding mirror_view
-mirror_fitted P t shown idle None h = idle
-mirror_fitted P t shown idle (Some j) h = shown j (h j refl)
+mirror_fitted P t None shown idle h = idle
+mirror_fitted P t (Some j) shown idle h = shown j refl (h j refl)
 
 pub mirror_facts : (o : Option ℕ) (t : Table) → ForSome o (λ j. MirrorFits j t) → Facts t → Facts (mirror_view o t)
-mirror_facts o t h f = mirror_fitted Facts t (λ j k. mirror_table_facts j t k.1 f) f o h
+mirror_facts o t h f = mirror_fitted Facts t o (λ j e k. mirror_table_facts j t k.1 f) f h
 
 -- a table that passes the test fits
 mirror_fitting : (j : ℕ) (t : Table) → mirror_fits j t ≡ true → MirrorFits j t
